@@ -1,0 +1,77 @@
+-- The laws of the nine groups: where each stands, and that what is stored fits.
+-- Assumes nothing.
+use mathlib.Core.Path.{_≡_, refl, sym, ap, _∙_, subst}
+use mathlib.Core.Bool.{Bool, true, false, cond}
+use mathlib.Core.Logic.{⊎-elim}
+use Prim.Native.Nat.{ℕ, zero, suc, _+_, _-_, _*_, _^_, _≤_, _<_}
+use native.Mathlib.Nat.{not-suc-le-zero, le-of-suc-le-suc, eq-or-lt-of-le, le-refl, le-trans, le-of-eq, mul-one, mul-le-mul-right, mul-lt-mul-of-pos-right, lt-of-lt-of-le, pow-le-pow-right}
+use native.Mathlib.Numerals.{add-one}
+use native.Mathlib.Omega.{arith}
+use lib.Pow.{pow-add}
+use lib.Dec.{ltb, lit<}
+use Rattle.groups.specs.Layout.{wideOf, groupsOf, digitsAt, offset}
+use Rattle.groups.specs.Read.{unitOf, storedAt, rangeAt}
+use Rattle.groups.specs.Course.{oneAt}
+use Rattle.groups.specs.declared.Form.{Form}
+use Rattle.groups.specs.declared.reader.One.{One}
+use mathlib.Core.List.{List}
+
+module _ (F : Form) (i f : ℕ) where
+  offset-mono : (m k : ℕ) → k ≤ m → offset F i f k ≤ offset F i f m
+  unfolding offset
+  offset-mono zero k h = let e : k ≡ 0 = omega arith in rw e (le-refl 0)
+  offset-mono (suc m) k h =
+      ⊎-elim (λ e. rw e (le-refl (offset F i f (suc m)))) (λ l. let r = offset-mono m k (le-of-suc-le-suc l) in omega arith) (eq-or-lt-of-le h)
+
+  pub offset-more : (k : ℕ) → offset F i f (k + 1) ≡ offset F i f k + wideOf F (digitsAt i f k)
+  unfolding offset
+  offset-more k = rw add-one refl
+
+  -- the k-th group lies within the whole
+  pub within : (k : ℕ) → k < 9 → offset F i f k + wideOf F (digitsAt i f k) ≤ offset F i f 9
+  within k h = rw (← offset-more k) (offset-mono 9 (k + 1) (omega arith))
+
+-- what is stored has at most nine digits
+pow-pos10 : (n : ℕ) → 0 < 10 ^ n
+pow-pos10 n = le-trans (le-refl 1) (pow-le-pow-right (lit< tt) {i = 0} {j = n} (omega arith))
+
+nine : (d : ℕ) → d ≤ 9 → 10 ^ d * 10 ^ (9 - d) ≡ 1000000000
+nine d h = sym (pow-add 10 d (9 - d)) ∙ ap (λ (n : ℕ). 10 ^ n) (let e : d + (9 - d) ≡ 9 = omega arith in e)
+
+pub unit-pos : (i k d : ℕ) → 0 < unitOf i k d
+unfolding unitOf
+unit-pos i k d = go (ltb k (groupsOf i))
+  where
+    go : (t : Bool) → 0 < cond t 1 (10 ^ (9 - d))
+    go true = lit< tt
+    go false = pow-pos10 (9 - d)
+
+pub stored-lt : (i k d x : ℕ) → d ≤ 9 → x < 10 ^ d → x * unitOf i k d < 1000000000
+unfolding unitOf
+stored-lt i k d x h l = go (ltb k (groupsOf i))
+  where
+    go : (t : Bool) → x * cond t 1 (10 ^ (9 - d)) < 1000000000
+    go true = rw mul-one (lt-of-lt-of-le l (pow-le-pow-right (lit< tt) {j = 9} h))
+    go false = subst (λ (n : ℕ). x * 10 ^ (9 - d) < n) (nine d h) (mul-lt-mul-of-pos-right l (pow-pos10 (9 - d)))
+
+-- ---- one group, read
+module _ (F : Form) (i f : ℕ) (ps : List ℕ) (k : ℕ) where
+  pub one-ok : oneAt F i f ps k .ok ≡ rangeAt F i f ps k
+  unfolding oneAt
+  one-ok = go (rangeAt F i f ps k)
+    where
+      go : (t : Bool) → cond {A = One} t (record { ok = true; group = storedAt F i f ps k; next = offset F i f (k + 1) }) (record { ok = false; group = 0; next = offset F i f (k + 1) }) .ok ≡ t
+      go true = refl
+      go false = refl
+
+  pub one-next : oneAt F i f ps k .next ≡ offset F i f (k + 1)
+  unfolding oneAt
+  one-next = go (rangeAt F i f ps k)
+    where
+      go : (t : Bool) → cond {A = One} t (record { ok = true; group = storedAt F i f ps k; next = offset F i f (k + 1) }) (record { ok = false; group = 0; next = offset F i f (k + 1) }) .next ≡ offset F i f (k + 1)
+      go true = refl
+      go false = refl
+
+  pub one-group : rangeAt F i f ps k ≡ true → oneAt F i f ps k .group ≡ storedAt F i f ps k
+  unfolding oneAt
+  one-group h = simp h

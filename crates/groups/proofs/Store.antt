@@ -1,0 +1,60 @@
+-- The laws of writing: one byte more of a group, from its last to its first; one group more; the first bit at the end.
+-- Assumes nothing.
+use mathlib.Core.Path.{_≡_, refl, sym, ap, _∙_, subst}
+use mathlib.Core.List.{List, [], _∷_, _++_, map, map-append, append-assoc}
+use Prim.Native.Nat.{ℕ, zero, suc, _+_, _-_, _*_, _/_, _%_, _≤_, _<_}
+use native.Mathlib.Nat.{le-of-suc-le-suc, not-suc-le-zero, add-suc, le-refl, le-of-lt, sub-zero, zero-sub, suc-sub-suc}
+use native.Mathlib.Numerals.{add-one}
+use native.Mathlib.Omega.{arith}
+use lib.ListN.{replicate, length, getD, take, drop, set, length-append, length-map, length-set, take-append-drop}
+use lib.Seq.{take-set-le, drop-cons, drop-set-lt, getD-set-same, lt-length-set, take-at, drop-at, drop-drop, getD-at, set-at, take-suc, length-take-le}
+use Rattle.groups.specs.Layout.{baseOf, wideOf, digitsAt, offset}
+use Rattle.groups.specs.declared.Form.{Form}
+use Rattle.groups.specs.Numbers.{digits}
+use Rattle.groups.specs.Read.{unitOf}
+use Rattle.groups.specs.Write.{digitsTo, groupDigits}
+use Rattle.groups.proofs.Radix.{length-digits}
+
+drop-set-same : (out : List ℕ) (j v : ℕ) → j < length out → drop j (set out j v) ≡ v ∷ drop (suc j) out
+drop-set-same out j v h =
+    drop-cons (set out j v) j 0 (lt-length-set out j v h) ∙ rw (getD-set-same out j v 0 h, drop-set-lt (suc j) out j v (le-refl (suc j)))
+
+-- with the last of i + 1 digits stored, what is left to write is the i before it
+pub put-more : (b : ℕ) (out : List ℕ) (at i x : ℕ) → at + i < length out
+    → let out′ = set out (at + i) (x % b) in
+    take at out′ ++ (digits b i (x / b) ++ drop (at + i) out′) ≡ take at out ++ (digits b (suc i) x ++ drop (at + suc i) out)
+unfolding digits
+put-more b out at i x h =
+    let m : at ≤ at + i = omega arith in
+    rw (take-set-le at out (at + i) (x % b) m, drop-set-same out (at + i) (x % b) h, append-assoc, add-suc at i)
+
+pub length-to : (F : Form) (i f : ℕ) (gs : List ℕ) (k : ℕ) → length (digitsTo F i f gs k) ≡ offset F i f k
+unfolding digitsTo offset groupDigits
+length-to F i f gs zero = refl
+length-to F i f gs (suc k) = length-append (digitsTo F i f gs k) _ ∙ rw (length-to F i f gs k, length-digits)
+
+-- what is written after a front that is written already
+pub join : (A B out : List ℕ) (at w : ℕ) → length A ≡ at
+    → take at (A ++ drop at out) ++ (B ++ drop (at + w) (A ++ drop at out)) ≡ (A ++ B) ++ drop (at + w) out
+join A B out at w e =
+    rw (take-at A (drop at out) at e, ← drop-drop w at (A ++ drop at out), drop-at A (drop at out) at e, drop-drop w at out, append-assoc)
+
+-- one group more
+pub group-is : (F : Form) (i f k g : ℕ) {d w u b : ℕ} → d ≡ digitsAt i f k → w ≡ wideOf F d → u ≡ unitOf i k d → b ≡ baseOf F
+    → digits b w (g / u) ≡ groupDigits F i f k g
+unfolding groupDigits
+group-is F i f k g d w u b = rw (b, u, w, d)
+
+pub to-next : (F : Form) (i f : ℕ) (gs : List ℕ) (k : ℕ) → digitsTo F i f gs k ++ groupDigits F i f k (getD gs k 0) ≡ digitsTo F i f gs (k + 1)
+unfolding digitsTo
+to-next F i f gs k = rw add-one
+
+-- one element more of a front that a function is put over
+pub map-more : (g : ℕ → ℕ) (out out₀ : List ℕ) (i : ℕ) → i < length out₀ → out ≡ map g (take i out₀) ++ drop i out₀
+    → set out i (g (getD out i 0)) ≡ map g (take (i + 1) out₀) ++ drop (i + 1) out₀
+map-more g out out₀ i h e =
+    let A = map g (take i out₀) in
+    let n : length A ≡ i = length-map (take i out₀) g ∙ length-take-le i out₀ (le-of-lt h) in
+    let y = getD out₀ i 0 in
+    let q : out ≡ A ++ y ∷ drop (suc i) out₀ = e ∙ rw (drop-cons out₀ i 0 h) in
+    rw (q, getD-at A y (drop (suc i) out₀) 0 i n, set-at A y (drop (suc i) out₀) (g y) i n, add-one, take-suc out₀ i 0 h, map-append, append-assoc)

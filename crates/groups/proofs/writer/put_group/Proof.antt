@@ -1,0 +1,83 @@
+use borrow.Author.Needs.{needs}
+use Prim.Native.Nat.{ℕ, suc, _≤_, _+_, _-_}
+use mathlib.Core.Path.{_≡_, refl, sym, _∙_, ap}
+use mathlib.Core.List.{_++_}
+use native.Mathlib.Nat.{add-zero, mod-lt}
+use native.Mathlib.Omega.{arith}
+use lib.ListN.{length, take, drop, length-set, take-append-drop}
+use Rattle.groups.specs.Numbers.{digits}
+use Rattle.groups.proofs.Store.{put-more}
+use Rattle.groups.proofs.writer.put_group.Statement.{statement}
+use Rattle.groups.proofs.writer.put_group.Tie as tie
+
+abbrev Inv-loop : tie.InvT-loop
+Inv-loop out₀ at w x base i₀ rest₀ out i rest =
+    (i ≤ w) × ((length out ≡ length out₀) × (take at out ++ (digits base i rest ++ drop (at + i) out) ≡ take at out₀ ++ (digits base w x ++ drop (at + w) out₀)))
+
+abbrev μ-loop : tie.MeasureT-loop
+μ-loop out₀ at w x base i₀ rest₀ out i rest = i
+
+loop-holds : tie.Need-loop-holds Inv-loop μ-loop
+loop-holds c = (search needs, (refl, refl))
+
+sub-i : tie.Need-sub-i Inv-loop μ-loop
+sub-i c = search needs
+
+rem-low : tie.Need-rem-low Inv-loop μ-loop
+rem-low c = search needs
+
+low-requires : tie.Need-low-requires Inv-loop μ-loop
+low-requires c κs = let h = mod-lt (c .before .loop .rest) (c .before .before .before .pre .1 .0) in omega arith
+
+add-out : tie.Need-add-out Inv-loop μ-loop
+add-out c = omega arith
+
+slice-write-out : tie.Need-slice-write-out Inv-loop μ-loop
+slice-write-out c = omega arith
+
+div-rest : tie.Need-div-rest Inv-loop μ-loop
+div-rest c = search needs
+
+loop-less : tie.Need-loop-less Inv-loop μ-loop
+loop-less c = omega arith
+
+loop-again : tie.Need-loop-again Inv-loop μ-loop
+loop-again c =
+    let l = c .before .before .loop in
+    let a = c .before .before .before .before .args in
+    let e : suc (l .i - 1) ≡ l .i = omega arith in (
+      omega arith,
+      (
+        simp length-set (l .inv .1 .0),
+        rw (c .low .ensures) (rw e at (put-more (a .base) (l .out) (a .at) (l .i - 1) (l .rest) (omega arith)) ∙ l .inv .1 .1),
+      ),
+    )
+
+same-length : tie.Need-same-length Inv-loop μ-loop
+same-length c = c .before .loop .inv .1 .0
+
+returns : tie.Need-returns Inv-loop μ-loop
+unfolding digits
+returns c =
+    let l = c .before .loop in
+    let a = c .before .before .before .args in
+    let e : l .i ≡ 0 = omega arith in
+    sym (take-append-drop (a .at) (l .out)) ∙ rw (e, add-zero) at (l .inv .1 .1)
+
+pub put-group-spec : {M : Type 1} → statement M
+put-group-spec =
+    tie.close
+    (tie.spec
+    Inv-loop
+    μ-loop
+    loop-holds
+    sub-i
+    rem-low
+    low-requires
+    add-out
+    slice-write-out
+    div-rest
+    loop-less
+    loop-again
+    same-length
+    returns)

@@ -1,0 +1,6 @@
+pub mod Numbers
+pub mod Layout
+pub mod Packed
+pub mod Read
+pub mod Write
+pub mod Course

@@ -1,0 +1,34 @@
+-- How the digits of all groups stand in bytes (document 01: a negative value has all bytes inverted; then the first bit is flipped).
+-- `bytesOf` writes digits, `digitsIn` reads them back; with the form Digits the bytes are the digits.
+-- Assumes nothing.
+use Prim.Native.Nat.{ℕ, _+_, _-_}
+use mathlib.Core.Bool.{cond}
+use mathlib.Core.List.{List, [], _∷_, map}
+use lib.Dec.{ltb}
+use Rattle.groups.specs.declared.Form.{Form}
+use Rattle.groups.specs.declared.Form.the-variants.{Plain, Inverted, Digits}
+
+-- a byte with its first bit flipped
+unfoldable pub flip : ℕ → ℕ
+flip b = cond (ltb b 128) (b + 128) (b - 128)
+
+-- the first byte's first bit flipped
+unfoldable pub flipFirst : List ℕ → List ℕ
+flipFirst [] = []
+flipFirst (b ∷ bs) = flip b ∷ bs
+
+-- a byte with all its bits inverted
+abbrev pub invert : ℕ → ℕ
+invert b = 255 - b
+
+-- the bytes that show the digits ds
+unfoldable pub bytesOf : Form → List ℕ → List ℕ
+bytesOf Plain ds = flipFirst ds
+bytesOf Inverted ds = flipFirst (map invert ds)
+bytesOf Digits ds = ds
+
+-- the digits that the bytes bs show
+unfoldable pub digitsIn : Form → List ℕ → List ℕ
+digitsIn Plain bs = flipFirst bs
+digitsIn Inverted bs = map invert (flipFirst bs)
+digitsIn Digits bs = bs
