@@ -6,3 +6,4 @@ pub mod Radix
 pub mod Marks
 pub mod Places
 pub mod Store
+pub mod Room

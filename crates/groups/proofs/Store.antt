@@ -8,12 +8,13 @@ use native.Mathlib.Numerals.{add-one}
 use native.Mathlib.Omega.{arith}
 use lib.ListN.{replicate, length, getD, take, drop, set, length-append, length-map, length-set, take-append-drop}
 use lib.Seq.{take-set-le, drop-cons, drop-set-lt, getD-set-same, lt-length-set, take-at, drop-at, drop-drop, getD-at, set-at, take-suc, length-take-le}
-use Rattle.groups.specs.Layout.{baseOf, wideOf, digitsAt, offset}
+use Rattle.groups.specs.Layout.{baseOf, wideOf, digitsAt, offset, sizeIn}
 use Rattle.groups.specs.declared.Form.{Form}
 use Rattle.groups.specs.Numbers.{digits}
 use Rattle.groups.specs.Read.{unitOf}
-use Rattle.groups.specs.Write.{digitsTo, groupDigits}
+use Rattle.groups.specs.Write.{digitsTo, groupDigits, written}
 use Rattle.groups.proofs.Radix.{length-digits}
+use Rattle.groups.proofs.Marks.{length-of}
 
 drop-set-same : (out : List ℕ) (j v : ℕ) → j < length out → drop j (set out j v) ≡ v ∷ drop (suc j) out
 drop-set-same out j v h =
@@ -58,3 +59,8 @@ map-more g out out₀ i h e =
     let y = getD out₀ i 0 in
     let q : out ≡ A ++ y ∷ drop (suc i) out₀ = e ∙ rw (drop-cons out₀ i 0 h) in
     rw (q, getD-at A y (drop (suc i) out₀) 0 i n, set-at A y (drop (suc i) out₀) (g y) i n, add-one, take-suc out₀ i 0 h, map-append, append-assoc)
+
+-- the bytes of all groups are as many as their size
+pub length-written : (F : Form) (i f : ℕ) (gs : List ℕ) → length (written F i f gs) ≡ sizeIn F i f
+unfolding written
+length-written F i f gs = length-of F (digitsTo F i f gs 9) ∙ length-to F i f gs 9

@@ -7,7 +7,7 @@ use lib.Dec.{leb, ltb, eqb}
 use lib.ListN.{length, getD, drop}
 use Rattle.refusal.specs.Told.{Told, answer, refusal}
 use Rattle.groups.specs.Numbers.{digits, both, all}
-use Rattle.groups.specs.Layout.{digitsAt, baseOf, wideOf, sizeIn, size}
+use Rattle.groups.specs.Layout.{digitsAt, baseOf, wideOf, size}
 use Rattle.groups.specs.Packed.{bytesOf}
 use Rattle.groups.specs.Read.{inRange, unitOf}
 use Rattle.groups.specs.declared.Form.{Form}
@@ -48,9 +48,16 @@ digitsTo F i f gs (suc k) = digitsTo F i f gs k ++ groupDigits F i f k (getD gs 
 unfoldable pub written : Form → ℕ → ℕ → List ℕ → List ℕ
 written F i f gs = bytesOf F (digitsTo F i f gs 9)
 
+-- What an output says that is to take the bytes bs, and what it holds afterwards: 25 where it is shorter, and then it is unchanged.
+unfoldable pub roomTold : List ℕ → List ℕ → Told
+roomTold bs out = cond (leb (length bs) (length out)) (answer (length bs ∷ [])) (refusal 25)
+
+unfoldable pub roomLeaves : List ℕ → List ℕ → List ℕ
+roomLeaves bs out = cond (leb (length bs) (length out)) (bs ++ drop (length bs) out) out
+
 -- the answer, and the output afterwards
 unfoldable pub writeTold : Form → ℕ → ℕ → List ℕ → List ℕ → Told
-writeTold F i f gs out = cond (wellFormed i f gs) (cond (leb (sizeIn F i f) (length out)) (answer (sizeIn F i f ∷ [])) (refusal 25)) (refusal 26)
+writeTold F i f gs out = cond (wellFormed i f gs) (roomTold (written F i f gs) out) (refusal 26)
 
 unfoldable pub writeLeaves : Form → ℕ → ℕ → List ℕ → List ℕ → List ℕ
-writeLeaves F i f gs out = cond (wellFormed i f gs) (cond (leb (sizeIn F i f) (length out)) (written F i f gs ++ drop (sizeIn F i f) out) out) out
+writeLeaves F i f gs out = cond (wellFormed i f gs) (roomLeaves (written F i f gs) out) out

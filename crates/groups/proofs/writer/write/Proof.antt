@@ -8,14 +8,15 @@ use mathlib.Core.List.{List, [], _∷_, _++_}
 use native.Mathlib.Omega.{arith}
 use lib.ListN.{length, take, drop}
 use lib.Seq.{take-at, drop-at}
-use borrow.Author.Tests.{not-true, not-false, le-leb, lt-leb}
+use borrow.Author.Tests.{not-true, not-false}
 use Rattle.refusal.specs.Told.{answer}
 use Rattle.groups.specs.Layout.{sizeIn}
 use Rattle.groups.specs.Packed.{bytesOf}
 use Rattle.groups.specs.Write.{wellFormed, digitsTo, written, writeTold, writeLeaves}
 use Rattle.groups.proofs.Accept.{well-digits}
 use Rattle.groups.proofs.Sizes.{size-pos}
-use Rattle.groups.proofs.Store.{length-to}
+use Rattle.groups.proofs.Store.{length-to, length-written}
+use Rattle.groups.proofs.Room.{short, fits}
 use borrow.Author.Needs.{needs}
 use Rattle.groups.proofs.writer.write.Statement.{statement}
 use Rattle.groups.proofs.writer.write.Tie as tie
@@ -41,8 +42,10 @@ size-in-requires c κs = let h = well-digits _ _ _ (well c) in omega arith
 returns-2 : tie.Need-returns-2
 unfolding writeTold writeLeaves
 returns-2 c =
-    let l = lt-leb _ _ (rw (c .before .size-in .ensures) at (c .if2 .taken)) in
-    (sym (simp (well (c .before .before), l)), sym (simp (well (c .before .before), l)))
+    let z = c .before in
+    let a = z .before .before .before .before .args in
+    let r = short (written (a .form) (a .intg) (a .frac) (a .groups)) (now (a .out)) (length-written (a .form) (a .intg) (a .frac) (a .groups)) (rw (z .size-in .ensures) at (c .if2 .taken)) in
+    (sym (simp (well (z .before), r .0)), sym (simp (well (z .before), r .1)))
 
 put-groups-requires : tie.Need-put-groups-requires
 put-groups-requires c κs = let h = well-digits _ _ _ (well (c .before .before .before)) in (omega arith, enough (c .before))
@@ -66,14 +69,13 @@ returns-3 c =
     let z = p .before .before .before in
     let a = z .before .before .before .before .args in
     let w = well (z .before) in
-    let l = le-leb _ _ (enough (p .before .before)) in
+    let r = fits (written (a .form) (a .intg) (a .frac) (a .groups)) (now (a .out)) (length-written (a .form) (a .intg) (a .frac) (a .groups)) (enough (p .before .before)) in
     let D = digitsTo (a .form) (a .intg) (a .frac) (a .groups) 9 in
     let n = sizeIn (a .form) (a .intg) (a .frac) in
     let R = drop n (now (a .out)) in
     let e : length D ≡ n = length-to (a .form) (a .intg) (a .frac) (a .groups) 9 in (
-      simp (w, l, z .size-in .ensures),
-      c .before .before .show-front .ensures
-          ∙ rw (z .size-in .ensures, p .put-groups .ensures, take-at D R n e, drop-at D R n e) (sym (simp (w, l))),
+      simp (w, r .0, z .size-in .ensures),
+      c .before .before .show-front .ensures ∙ rw (z .size-in .ensures, p .put-groups .ensures, take-at D R n e, drop-at D R n e) (sym (simp (w, r .1))),
     )
 
 pub write-spec : {M : Type 1} → statement M
