@@ -7,3 +7,4 @@ pub mod Marks
 pub mod Places
 pub mod Store
 pub mod Room
+pub mod Opened

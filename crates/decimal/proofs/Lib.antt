@@ -1,0 +1,4 @@
+pub mod Lex
+pub mod Values
+pub mod Trim
+pub mod Cases

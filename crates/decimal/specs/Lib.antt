@@ -1,0 +1,5 @@
+pub mod Read
+pub mod Write
+pub mod Value
+pub mod Text
+pub mod Course

@@ -1,0 +1,68 @@
+-- What reading a packed decimal answers (decimal.c of MySQL; document 01, 'Decimal rules'). The groups are read by `readGroups` of the crate
+-- groups, with its refusals 20, 21 and 22; here stand the sign, the precision that is kept or not, and the packed header.
+-- Assumes nothing.
+use Prim.Native.Nat.{ℕ, zero, suc, _+_, _-_, _*_}
+use mathlib.Core.Bool.{Bool, true, false, cond}
+use mathlib.Core.List.{List, [], _∷_}
+use lib.Dec.{ltb, eqb}
+use lib.ListN.{getD}
+use Rattle.groups.specs.Numbers.{tab}
+use Rattle.groups.specs.Layout.{groupsOf}
+use Rattle.groups.specs.Read.{readGroups, zeros}
+use Rattle.groups.specs.declared.Form.{Form}
+use Rattle.groups.specs.declared.Form.the-variants.{Plain, Inverted}
+use Rattle.groups.specs.declared.Groups.{Groups}
+use Rattle.decimal.specs.declared.Decimal.{Decimal}
+use Rattle.decimal.specs.declared.Answer.{Answer}
+
+-- the first bit is set where the value is not negative
+unfoldable pub negative : List ℕ → Bool
+negative [] = false
+negative (b ∷ bs) = ltb b 128
+
+abbrev pub formOf : Bool → Form
+formOf true = Inverted
+formOf false = Plain
+
+-- positive 0 with one integral digit
+abbrev pub nought : Decimal
+nought = record { intg = 1; frac = 0; sign = false; groups = zeros }
+
+-- a decimal with these parts, and positive 0 where no digit is left
+unfoldable pub decimalOf : ℕ → ℕ → Bool → List ℕ → Decimal
+decimalOf i f neg gs = cond (eqb (i + f) 0) nought (record { intg = i; frac = f; sign = neg; groups = gs })
+
+-- how many of the first n are zero, up to the first that is not
+unfoldable pub leadingIn : ℕ → List ℕ → ℕ
+leadingIn zero xs = 0
+leadingIn (suc n) [] = 0
+leadingIn (suc n) (x ∷ xs) = cond (eqb x 0) (suc (leadingIn n xs)) 0
+
+-- without its first z integral groups. Past the first all integral groups are whole
+unfoldable pub without : ℕ → ℕ → ℕ → Bool → List ℕ → Decimal
+without z i f neg gs = cond (eqb z 0) (decimalOf i f neg gs) (decimalOf (9 * (groupsOf i - z)) f neg (tab 9 (λ k. getD gs (k + z) 0)))
+
+-- with kept precision as it was read, and else without the leading integral groups that are zero
+unfoldable pub finished : Bool → ℕ → ℕ → Bool → List ℕ → Decimal
+finished true i f neg gs = decimalOf i f neg gs
+finished false i f neg gs = without (leadingIn (groupsOf i) gs) i f neg gs
+
+abbrev pub refused : ℕ → Answer
+refused n = record { refusal = n; decimal = nought }
+
+abbrev pub accepted : Decimal → Answer
+accepted d = record { refusal = 0; decimal = d }
+
+-- groups that were read, or their refusal
+unfoldable pub fromGroups : Groups → ℕ → ℕ → Bool → Bool → Answer
+fromGroups g i f neg keep = cond (eqb (g .refusal) 0) (accepted (finished keep i f neg (g .groups))) (refused (g .refusal))
+
+-- digit bytes of a known precision and scale
+unfoldable pub readBin : List ℕ → ℕ → ℕ → Bool → Answer
+readBin bs p s keep = fromGroups (readGroups (formOf (negative bs)) bs p s) (p - s) s (negative bs) keep
+
+-- packed: precision byte, scale byte, digits
+unfoldable pub readPacked : List ℕ → Bool → Answer
+readPacked [] keep = refused 21
+readPacked (p ∷ []) keep = refused 21
+readPacked (p ∷ s ∷ bs) keep = readBin bs p s keep

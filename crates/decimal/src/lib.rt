@@ -1,0 +1,105 @@
+// MySQL's decimals: packed bytes and text, there and back, and their order by value.
+mod order;
+mod reader;
+
+pub use groups::Counted;
+ghost use mathlib.Core.Path.{_≡_};
+ghost use Rattle.groups.specs.Write.{sizeOf, told as countTold};
+ghost use Rattle.decimal.specs.Read.{readBin, readPacked};
+ghost use Rattle.decimal.specs.Write.{binSize, writeBin, binLeaves};
+ghost use Rattle.decimal.specs.Value.{compareTold, told};
+
+// A decimal: as many integral and fractional digits, a sign, and the digits in groups of nine from the point outwards. The groups of
+// the fraction are stored as if each had nine digits, and unused groups are 0.
+pub struct Decimal {
+    pub intg: usize,
+    pub frac: usize,
+    pub sign: bool,
+    pub groups: [u32; 9],
+}
+
+// A decimal, or a refusal with positive 0. The refusal is 0 where there is none.
+pub struct Answer {
+    pub refusal: u8,
+    pub decimal: Decimal,
+}
+
+// The order of two decimals by value, or a refusal.
+pub enum Compared {
+    Less,
+    Equal,
+    Greater,
+    Refused(u8),
+}
+
+// The bytes that a decimal of this precision and scale takes.
+pub fn decimal_bin_size(precision: usize, scale: usize) -> Counted
+    ensures { λ r. ⌜ countTold r ≡ sizeOf precision scale ⌝ }
+{
+    groups::size(precision, scale)
+}
+
+impl Decimal {
+    // The bytes that this decimal takes.
+    pub fn bin_size(self) -> Counted
+        ensures { λ r. ⌜ countTold r ≡ binSize self ⌝ }
+    {
+        let gs = self.groups;
+        if !groups::well_formed(self.intg, self.frac, gs) {
+            return Counted::Refused(refusal::RECORD);
+        }
+        groups::size(self.intg + self.frac, self.frac)
+    }
+
+    // The decimal in the digit bytes at the front.
+    pub fn read_bin(bytes: &[u8], precision: usize, scale: usize, keep: bool) -> Answer
+        ensures { λ r. ⌜ r ≡ readBin (now (bytes .entry)) precision scale keep ⌝ }
+    {
+        let negative = reader::is_negative(bytes);
+        let g = groups::read(bytes, reader::form_of(negative), precision, scale);
+        if g.refusal != 0 {
+            return reader::refuse(g.refusal);
+        }
+        let gs = g.groups;
+        Answer {
+            refusal: 0,
+            decimal: reader::finish(keep, precision - scale, scale, negative, gs),
+        }
+    }
+
+    // The decimal in the packed form at the front: a precision byte, a scale byte and digit bytes.
+    pub fn read_packed(bytes: &[u8], keep: bool) -> Answer
+        ensures { λ r. ⌜ r ≡ readPacked (now (bytes .entry)) keep ⌝ }
+    {
+        if bytes.len() < 2 {
+            return reader::refuse(refusal::SHORT);
+        }
+        let precision = reader::wide(bytes[0]);
+        let scale = reader::wide(bytes[1]);
+        Decimal::read_bin(&bytes[2..], precision, scale, keep)
+    }
+
+    // Writes the digit bytes to the front of the output, and counts them. A refusal changes nothing.
+    pub fn write_bin(self, out: &mut [u8]) -> Counted
+        ensures { λ r. ⌜ countTold r ≡ writeBin self (now (out .entry)) ⌝ }
+        ensures { λ _. ⌜ now (out .exit) ≡ binLeaves self (now (out .entry)) ⌝ }
+    {
+        let gs = self.groups;
+        groups::write(out, reader::form_of(self.sign), self.intg, self.frac, gs)
+    }
+
+    // The order of the two values.
+    pub fn compare(self, other: Decimal) -> Compared
+        ensures { λ r. ⌜ told r ≡ compareTold self other ⌝ }
+    {
+        let a = self.groups;
+        if !groups::well_formed(self.intg, self.frac, a) {
+            return Compared::Refused(refusal::RECORD);
+        }
+        let b = other.groups;
+        if !groups::well_formed(other.intg, other.frac, b) {
+            return Compared::Refused(refusal::RECORD);
+        }
+        order::compare_values(self, other)
+    }
+}
