@@ -4,12 +4,12 @@ use mathlib.Core.Path.{_≡_, refl, sym, ap, _∙_, subst}
 use mathlib.Core.Bool.{Bool, true, false, cond}
 use mathlib.Core.Logic.{⊎-elim}
 use Prim.Native.Nat.{ℕ, zero, suc, _+_, _-_, _*_, _^_, _≤_, _<_}
-use native.Mathlib.Nat.{not-suc-le-zero, le-of-suc-le-suc, eq-or-lt-of-le, le-refl, le-trans, le-of-eq, mul-one, mul-le-mul-right, mul-lt-mul-of-pos-right, lt-of-lt-of-le, pow-le-pow-right}
+use native.Mathlib.Nat.{not-suc-le-zero, le-of-suc-le-suc, eq-or-lt-of-le, le-refl, le-trans, le-of-eq, mul-one, mul-le-mul-right, mul-lt-mul-of-pos-right, lt-of-lt-of-le, pow-le-pow-right, min-le-left}
 use native.Mathlib.Numerals.{add-one}
 use native.Mathlib.Omega.{arith}
 use lib.Pow.{pow-add}
 use lib.Dec.{ltb, lit<}
-use Rattle.groups.specs.Layout.{wideOf, groupsOf, digitsAt, offset}
+use Rattle.groups.specs.Layout.{wideOf, groupsOf, side, digitsAt, offset}
 use Rattle.groups.specs.Read.{unitOf, storedAt, rangeAt}
 use Rattle.groups.specs.Course.{oneAt}
 use Rattle.groups.specs.declared.Form.{Form}
@@ -17,7 +17,7 @@ use Rattle.groups.specs.declared.reader.One.{One}
 use mathlib.Core.List.{List}
 
 module _ (F : Form) (i f : ℕ) where
-  offset-mono : (m k : ℕ) → k ≤ m → offset F i f k ≤ offset F i f m
+  pub offset-mono : (m k : ℕ) → k ≤ m → offset F i f k ≤ offset F i f m
   unfolding offset
   offset-mono zero k h = let e : k ≡ 0 = omega arith in rw e (le-refl 0)
   offset-mono (suc m) k h =
@@ -30,6 +30,15 @@ module _ (F : Form) (i f : ℕ) where
   -- the k-th group lies within the whole
   pub within : (k : ℕ) → k < 9 → offset F i f k + wideOf F (digitsAt i f k) ≤ offset F i f 9
   within k h = rw (← offset-more k) (offset-mono 9 (k + 1) (omega arith))
+
+-- a group has at most nine digits
+pub digits-le : (i f k : ℕ) → digitsAt i f k ≤ 9
+unfolding digitsAt side
+digits-le i f k = go (ltb k (groupsOf i))
+  where
+    go : (t : Bool) → cond t (side i (groupsOf i - 1 - k)) (side f (k - groupsOf i)) ≤ 9
+    go true = min-le-left 9 _
+    go false = min-le-left 9 _
 
 -- what is stored has at most nine digits
 pow-pos10 : (n : ℕ) → 0 < 10 ^ n

@@ -1,0 +1,117 @@
+-- What the definitions of a text say of the characters at a place: zeros at the front, the sign, digits, and what follows them.
+-- Assumes nothing.
+use Prim.Native.Nat.{ℕ, suc, _+_, _-_, _≤_, _<_}
+use mathlib.Core.Path.{_≡_, refl, sym, _∙_, subst}
+use mathlib.Core.Bool.{Bool, true, false, cond}
+use mathlib.Core.List.{List, [], _∷_}
+use native.Mathlib.Numerals.{add-one}
+use native.Mathlib.Omega.{arith}
+use lib.Dec.{T, eqb}
+use lib.ListN.{length, getD, drop, length-drop, drop-of-length-le}
+use lib.Seq.{drop-cons}
+use borrow.Author.Tests.{eq-eqb, ne-eqb}
+use Rattle.groups.specs.Numbers.{both}
+use Rattle.numeral.specs.Read.{strip, unsigned, isDigit, run, pointed}
+use Rattle.numeral.specs.Course.{zeroZero, fractionAt}
+use Rattle.numeral.specs.declared.reader.Fraction.the-variants.{Places, Other}
+
+-- ---- zeros at the front
+few-zeros : (xs : List ℕ) → length xs ≤ 1 → zeroZero xs ≡ false
+unfolding zeroZero
+few-zeros [] h = refl
+few-zeros (x ∷ []) h = refl
+few-zeros (x ∷ y ∷ xs) h = absurd (omega arith)
+
+pub zeros-short : (t : List ℕ) (at : ℕ) → length t ≤ at + 1 → zeroZero (drop at t) ≡ false
+zeros-short t at h = few-zeros (drop at t) (simp length-drop (omega arith))
+
+zeros-two : (t : List ℕ) (at : ℕ) → at + 1 < length t → zeroZero (drop at t) ≡ both (eqb (getD t at 0) 48) (eqb (getD t (at + 1) 0) 48)
+unfolding zeroZero
+zeros-two t at h =
+    let l : at < length t = omega arith in
+    rw (drop-cons t at 0 l, ← add-one at, drop-cons t (at + 1) 0 h)
+
+pub zero-first : (t : List ℕ) (at : ℕ) → at + 1 < length t → getD t at 0 ≡ 48 → zeroZero (drop at t) ≡ eqb (getD t (at + 1) 0) 48
+zero-first t at h e = zeros-two t at h ∙ simp (eq-eqb _ _ e)
+
+pub zero-not-first : (t : List ℕ) (at : ℕ) → at + 1 < length t → (getD t at 0 ≡ 48 → ⊥) → zeroZero (drop at t) ≡ false
+zero-not-first t at h e = zeros-two t at h ∙ simp (ne-eqb _ _ e)
+
+pub zeros-fit : (xs : List ℕ) → zeroZero xs ≡ true → 2 ≤ length xs
+unfolding zeroZero
+zeros-fit [] e = absurd (subst T (sym e) tt)
+zeros-fit (x ∷ []) e = absurd (subst T (sym e) tt)
+zeros-fit (x ∷ y ∷ xs) e = omega arith
+
+pub strip-more : (xs : List ℕ) → zeroZero xs ≡ true → strip xs ≡ strip (drop 1 xs)
+unfolding zeroZero strip
+strip-more [] e = refl
+strip-more (x ∷ []) e = absurd (subst T (sym e) tt)
+strip-more (x ∷ y ∷ xs) e = simp e
+
+pub strip-same : (xs : List ℕ) → zeroZero xs ≡ false → strip xs ≡ xs
+unfolding zeroZero strip
+strip-same [] e = refl
+strip-same (x ∷ []) e = refl
+strip-same (x ∷ y ∷ xs) e = simp e
+
+-- ---- the sign
+pub sign-at : (t : List ℕ) (at : ℕ) → at < length t
+    → let x = getD t at 0 in unsigned (drop at t) ≡ cond (eqb x 45) (drop (at + 1) t) (cond (eqb x 43) (drop (at + 1) t) (drop at t))
+unfolding unsigned
+sign-at t at h = rw (add-one, drop-cons t at 0 h)
+
+-- ---- digits
+pub run-end : (t : List ℕ) (at : ℕ) → length t ≤ at → run (drop at t) ≡ 0
+unfolding run
+run-end t at h = rw (drop-of-length-le t h)
+
+pub run-stop : (t : List ℕ) (at : ℕ) → at < length t → isDigit (getD t at 0) ≡ false → run (drop at t) ≡ 0
+unfolding run
+run-stop t at h e = rw (drop-cons t at 0 h) (simp e)
+
+pub run-more : (t : List ℕ) (at : ℕ) → at < length t → isDigit (getD t at 0) ≡ true → run (drop at t) ≡ suc (run (drop (at + 1) t))
+unfolding run
+run-more t at h e = rw (drop-cons t at 0 h) (simp (e, add-one))
+
+pub run-le : (xs : List ℕ) → run xs ≤ length xs
+unfolding run
+run-le [] = omega arith
+run-le (x ∷ xs) = go (isDigit x) (run-le xs)
+  where
+    go : (b : Bool) → run xs ≤ length xs → cond b (suc (run xs)) 0 ≤ suc (length xs)
+    go true h = omega arith
+    go false h = omega arith
+
+-- ---- what follows the digits
+pub no-fraction : (xs : List ℕ) → fractionAt xs ≡ Other → pointed xs ≡ false
+unfolding fractionAt pointed
+no-fraction [] e = cc
+no-fraction (x ∷ xs) e = go (both (eqb x 46) (eqb (run xs) (length xs))) e
+  where
+    go : (b : Bool) → cond b (Places (length xs)) Other ≡ Other → b ≡ false
+    go true e = cc
+    go false e = refl
+
+pub a-fraction : (xs : List ℕ) (f : ℕ) → fractionAt xs ≡ Places f → (pointed xs ≡ true) × (length (drop 1 xs) ≡ f)
+unfolding fractionAt pointed
+a-fraction [] f e = (refl, cc)
+a-fraction (x ∷ xs) f e = go (both (eqb x 46) (eqb (run xs) (length xs))) e
+  where
+    go : (b : Bool) → cond b (Places (length xs)) Other ≡ Places f → (b ≡ true) × (length xs ≡ f)
+    go true e = (refl, cc)
+    go false e = (cc, cc)
+
+module _ (t : List ℕ) (at : ℕ) where
+  pub fraction-end : length t ≤ at → fractionAt (drop at t) ≡ Places 0
+  unfolding fractionAt
+  fraction-end h = rw (drop-of-length-le t h)
+
+  pub fraction-other : at < length t → (getD t at 0 ≡ 46 → ⊥) → fractionAt (drop at t) ≡ Other
+  unfolding fractionAt
+  fraction-other h e = rw (drop-cons t at 0 h) (simp (ne-eqb _ _ e))
+
+  pub fraction-point : at < length t → getD t at 0 ≡ 46
+      → let left = length t - (at + 1) in fractionAt (drop at t) ≡ cond (eqb (run (drop (at + 1) t)) left) (Places left) Other
+  unfolding fractionAt
+  fraction-point h e = rw (drop-cons t at 0 h) (simp (eq-eqb _ _ e, length-drop, add-one))

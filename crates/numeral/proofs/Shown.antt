@@ -1,0 +1,139 @@
+-- The laws of a printed text: the zeros at the front, how long each part is, and each part written after the one before it.
+-- Assumes nothing.
+use mathlib.Core.Path.{_≡_, refl, sym, ap, _∙_}
+use mathlib.Core.Bool.{Bool, true, false, cond}
+use mathlib.Core.List.{List, [], _∷_, _++_, map, append-assoc}
+use Prim.Native.Nat.{ℕ, zero, suc, _+_, _-_, _%_, _≤_, _<_, zero-le, suc-le-suc}
+use native.Mathlib.Nat.{le-of-suc-le-suc, not-suc-le-zero}
+use native.Mathlib.Numerals.{add-one}
+use native.Mathlib.Omega.{arith}
+use lib.Dec.{eqb, leb, ltb}
+use lib.ListN.{length, getD, take, drop, length-append, length-drop, length-map, take-append-drop}
+use lib.Seq.{drop-append-le, drop-at, drop-cons, length-take-le, take-add, take-take}
+use borrow.Author.Tests.{eq-eqb, ne-eqb, le-leb, lt-ltb, leb-true, ltb-true}
+use Rattle.groups.specs.Numbers.{both, all}
+use Rattle.groups.specs.Layout.{side, groupsOf}
+use Rattle.groups.proofs.Accept.{both-true, is-false}
+use Rattle.groups.proofs.Store.{join}
+use Rattle.groups.proofs.Tab.{all-true, all-each}
+use Rattle.numeral.specs.Print.{show, unpadded, firstDigits, wholeDigits, fractionText, areDigits}
+use Rattle.numeral.specs.Course.{zerosIn, DigitsTo}
+
+-- ---- zeros at the front
+pub zeros-stop : (m z : ℕ) (ds : List ℕ) → z < length ds → (getD ds z 0 ≡ 0 → ⊥) → zerosIn m (drop z ds) ≡ 0
+unfolding zerosIn
+zeros-stop zero z ds l h = refl
+zeros-stop (suc m) z ds l h = rw (drop-cons ds z 0 l) (simp (ne-eqb (getD ds z 0) 0 h))
+
+pub zeros-more : (n z : ℕ) (ds : List ℕ) → z < n → z < length ds → getD ds z 0 ≡ 0
+    → zerosIn (n - z) (drop z ds) ≡ suc (zerosIn (n - (z + 1)) (drop (z + 1) ds))
+unfolding zerosIn
+zeros-more n z ds k l h =
+    let e : n - z ≡ suc (n - (z + 1)) = omega arith in
+    rw (e, drop-cons ds z 0 l) (simp (eq-eqb (getD ds z 0) 0 h, add-one))
+
+zeros-le : (n : ℕ) (ds : List ℕ) → zerosIn n ds ≤ n
+unfolding zerosIn
+zeros-le zero ds = zero-le
+zeros-le (suc n) [] = zero-le
+zeros-le (suc n) (d ∷ ds) = go (eqb d 0) (zeros-le n ds)
+  where
+    go : (t : Bool) → zerosIn n ds ≤ n → cond t (suc (zerosIn n ds)) 0 ≤ suc n
+    go true h = suc-le-suc h
+    go false h = zero-le
+
+-- ---- the integral digits
+unpadded-is : (n : ℕ) (ds : List ℕ) → n < length ds → unpadded (take (suc n) ds) ≡ drop (zerosIn n ds) (take (suc n) ds)
+unfolding unpadded zerosIn
+unpadded-is n [] h = absurd (not-suc-le-zero h)
+unpadded-is zero (d ∷ ds) h = refl
+unpadded-is (suc n) (d ∷ []) h = absurd (omega arith)
+unpadded-is (suc n) (d ∷ e ∷ ds) h = go (eqb d 0) (unpadded-is n (e ∷ ds) (le-of-suc-le-suc h))
+  where
+    go : (t : Bool) → unpadded (e ∷ take n ds) ≡ drop (zerosIn n (e ∷ ds)) (e ∷ take n ds)
+        → cond t (unpadded (e ∷ take n ds)) (d ∷ e ∷ take n ds) ≡ drop (cond t (suc (zerosIn n (e ∷ ds))) 0) (d ∷ e ∷ take n ds)
+    go true r = r
+    go false r = refl
+
+first-is : (i : ℕ) → 1 ≤ i → firstDigits i ≡ suc ((i - 1) % 9)
+unfolding side groupsOf
+first-is i h = omega arith
+
+-- a part of a front is a front of the rest
+part-of-front : (i z : ℕ) (ds : List ℕ) → z ≤ i → i ≤ length ds → drop z (take i ds) ≡ take (i - z) (drop z ds)
+part-of-front i z ds h l =
+    let e : i ≡ z + (i - z) = omega arith in
+    let n : length (take z ds) ≡ z = length-take-le z ds (omega arith) in
+    ap (λ (k : ℕ). drop z (take k ds)) e ∙ ap (drop z) (take-add z (i - z) ds) ∙ drop-at (take z ds) (take (i - z) (drop z ds)) z n
+
+pub whole-none : (i : ℕ) (ds : List ℕ) → i ≡ 0 → wholeDigits i ds ≡ 0 ∷ []
+unfolding wholeDigits
+whole-none i ds h = simp (eq-eqb i 0 h)
+
+module _ (i : ℕ) (ds : List ℕ) {z : ℕ} (e : z ≡ zerosIn ((i - 1) % 9) ds) (h : i ≡ 0 → ⊥) (l : i ≤ length ds) where
+  pub whole-is : wholeDigits i ds ≡ take (i - z) (drop z ds)
+  unfolding wholeDigits
+  whole-is =
+      let m = (i - 1) % 9 in
+      let k : z ≤ m = rw e (zeros-le m ds) in
+      let A = take (suc m) ds in
+      let B = drop (suc m) (take i ds) in
+      let n : length A ≡ suc m = length-take-le (suc m) ds (omega arith) in
+      let q : take i ds ≡ A ++ B = sym (take-append-drop (suc m) (take i ds)) ∙ rw (take-take (suc m) i ds (omega arith)) in
+      let p : drop z (take i ds) ≡ drop z A ++ B = ap (drop z) q ∙ drop-append-le z A B (rw n (omega arith)) in
+      let u : unpadded A ≡ drop z A = rw e (unpadded-is m ds (omega arith)) in
+      simp (ne-eqb i 0 h, first-is i (omega arith), u) (sym p ∙ part-of-front i z ds (omega arith) l)
+
+  pub whole-length : length (map show (wholeDigits i ds)) ≡ i - z
+  whole-length =
+      let k : i - z ≤ length (drop z ds) = simp length-drop (omega arith) in
+      rw whole-is (length-map (take (i - z) (drop z ds)) show ∙ length-take-le (i - z) (drop z ds) k)
+
+-- ---- the fraction
+pub fraction-none : (i f : ℕ) (ds : List ℕ) → f ≡ 0 → fractionText i f ds ≡ []
+unfolding fractionText
+fraction-none i f ds h = simp (eq-eqb f 0 h)
+
+pub fraction-is : (i f : ℕ) (ds : List ℕ) → (f ≡ 0 → ⊥) → fractionText i f ds ≡ 46 ∷ map show (take f (drop i ds))
+unfolding fractionText
+fraction-is i f ds h = simp (ne-eqb f 0 h)
+
+pub fraction-length : (i f : ℕ) (ds : List ℕ) → (f ≡ 0 → ⊥) → i + f ≤ length ds → length (fractionText i f ds) ≡ 1 + f
+fraction-length i f ds h l =
+    let k : f ≤ length (drop i ds) = simp length-drop (omega arith) in
+    let e = length-map (take f (drop i ds)) show ∙ length-take-le f (drop i ds) k in
+    rw (fraction-is i f ds h) (omega arith)
+
+-- ---- a part written after the one before it: a second in the middle of an output, and a second and a third at its front
+pub after : (A B out : List ℕ) (at a b : ℕ) → length A ≡ a → at ≤ length out
+    → let out₁ = take at out ++ (A ++ drop (at + a) out) in
+    take (at + a) out₁ ++ (B ++ drop (at + a + b) out₁) ≡ take at out ++ ((A ++ B) ++ drop (at + a + b) out)
+after A B out at a b e h =
+    let n : length (take at out ++ A) ≡ at + a = length-append (take at out) A ∙ rw (length-take-le at out h, e) in
+    rw (← append-assoc (take at out) A (drop (at + a) out)) (join (take at out ++ A) B out (at + a) b n ∙ simp append-assoc)
+
+pub three : (S W F out : List ℕ) {out₁ out₂ out₃ : List ℕ} {a b r : ℕ} → a ≡ length S → out₁ ≡ S ++ drop a out
+    → b ≡ a + length W → out₂ ≡ take a out₁ ++ (W ++ drop b out₁) → r ≡ b + length F → out₃ ≡ take b out₂ ++ (F ++ drop r out₂)
+    → (r ≡ length (S ++ (W ++ F))) × (out₃ ≡ (S ++ (W ++ F)) ++ drop r out)
+three S W F out {out₁} {out₂} {out₃} {a} {b} {r} ea e₁ eb e₂ er e₃ =
+    let q₂ : out₂ ≡ (S ++ W) ++ drop b out = e₂ ∙ rw (e₁, eb) (join S W out a (length W) (sym ea)) in
+    let nb : length (S ++ W) ≡ b = length-append S W ∙ rw (eb, ea) in
+    let q₃ : out₃ ≡ ((S ++ W) ++ F) ++ drop r out = e₃ ∙ rw (q₂, er) (join (S ++ W) F out b (length F) nb) in
+    (er ∙ sym (simp length-append (omega arith)), q₃ ∙ simp append-assoc)
+
+-- ---- what the test of the digits tells, and what tells it
+pub are-digits : (i f : ℕ) (ds : List ℕ) → areDigits i f ds ≡ true → (i + f ≤ 65) × ((i + f ≤ length ds) × DigitsTo (i + f) ds)
+unfolding areDigits
+are-digits i f ds e =
+    let p : ℕ → Bool = λ k. ltb (getD ds k 0) 10 in
+    let u = both-true (leb (i + f) 65) (both (leb (i + f) (length ds)) (all (i + f) p)) e in
+    let v = both-true (leb (i + f) (length ds)) (all (i + f) p) (u .1) in
+    (leb-true _ _ (u .0), (leb-true _ _ (v .0), λ k h. ltb-true _ _ (all-each p (i + f) (v .1) k h)))
+
+pub not-digits : (i f : ℕ) (ds : List ℕ) → ((i + f ≤ 65) × ((i + f ≤ length ds) × DigitsTo (i + f) ds) → ⊥) → areDigits i f ds ≡ false
+not-digits i f ds h = is-false (areDigits i f ds) (λ e. h (are-digits i f ds e))
+
+pub all-digits : (i f : ℕ) (ds : List ℕ) → i + f ≤ 65 → i + f ≤ length ds → DigitsTo (i + f) ds → areDigits i f ds ≡ true
+unfolding areDigits
+all-digits i f ds h l d =
+    simp (le-leb _ _ h, le-leb _ _ l) (all-true (λ k. ltb (getD ds k 0) 10) (i + f) (λ k m. lt-ltb _ _ (d k m)))

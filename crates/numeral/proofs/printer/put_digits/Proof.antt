@@ -1,0 +1,80 @@
+-- The digits passed are printed, and the others are as they were.
+-- Assumes nothing.
+use borrow.Author.Needs.{needs}
+use denote.Ref.{now}
+use Prim.Native.Nat.{_≤_, _+_, _-_}
+use mathlib.Core.Path.{_≡_, refl}
+use mathlib.Core.List.{_++_, map}
+use native.Mathlib.Omega.{arith}
+use lib.ListN.{length, take, drop, length-set}
+use Rattle.numeral.specs.Print.{show}
+use Rattle.numeral.proofs.Copies.{copy-none, copy-more}
+use Rattle.numeral.proofs.printer.put_digits.Statement.{statement}
+use Rattle.numeral.proofs.printer.put_digits.Tie as tie
+
+abbrev Inv-loop : tie.InvT-loop
+Inv-loop out₀ at digits from n i₀ out i =
+    (i ≤ n) × ((length out ≡ length out₀) × (out ≡ take at out₀ ++ (map show (take i (drop from digits)) ++ drop (at + i) out₀)))
+
+abbrev μ-loop : tie.MeasureT-loop
+μ-loop out₀ at digits from n i₀ out i = n - i
+
+loop-holds : tie.Need-loop-holds Inv-loop μ-loop
+loop-holds c = (search needs, (refl, copy-none (now (c .before .before .args .out)) (c .before .before .args .at)))
+
+add-shown : tie.Need-add-shown Inv-loop μ-loop
+add-shown c = omega arith
+
+shared-slice-read-shown : tie.Need-shared-slice-read-shown Inv-loop μ-loop
+shared-slice-read-shown c = omega arith
+
+shown-requires : tie.Need-shown-requires Inv-loop μ-loop
+shown-requires c κs =
+    let s = c .before .before .before .before .before in
+    s .pre .1 (s .args .from + c .before .before .loop .i) (omega arith)
+
+add-out : tie.Need-add-out Inv-loop μ-loop
+add-out c = omega arith
+
+slice-write-out : tie.Need-slice-write-out Inv-loop μ-loop
+slice-write-out c = omega arith
+
+add-i : tie.Need-add-i Inv-loop μ-loop
+add-i c = omega arith
+
+loop-less : tie.Need-loop-less Inv-loop μ-loop
+loop-less c = omega arith
+
+loop-again : tie.Need-loop-again Inv-loop μ-loop
+loop-again c =
+    let l = c .before .before .before .loop in
+    let a = c .before .before .before .before .before .before .args in
+    let m = copy-more show (now (a .digits)) (l .out) (now (a .out)) (a .at) (a .from) (l .i) (omega arith) (omega arith) (l .inv .1 .1) in
+    (search needs, (simp length-set (l .inv .1 .0), rw (c .shown .ensures) m))
+
+same-length : tie.Need-same-length Inv-loop μ-loop
+same-length c = c .before .loop .inv .1 .0
+
+returns : tie.Need-returns Inv-loop μ-loop
+returns c =
+    let l = c .before .loop in
+    let e : l .i ≡ c .before .before .before .before .args .n = omega arith in
+    rw e at (l .inv .1 .1)
+
+pub put-digits-spec : {M : Type 1} → statement M
+put-digits-spec =
+    tie.close
+    (tie.spec
+    Inv-loop
+    μ-loop
+    loop-holds
+    add-shown
+    shared-slice-read-shown
+    shown-requires
+    add-out
+    slice-write-out
+    add-i
+    loop-less
+    loop-again
+    same-length
+    returns)

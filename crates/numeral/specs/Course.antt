@@ -1,0 +1,32 @@
+-- What private functions do on the way; no public promise rests on it.
+-- Assumes nothing.
+use Prim.Native.Nat.{ℕ, zero, suc, _<_}
+use mathlib.Core.Bool.{Bool, false, cond}
+use mathlib.Core.List.{List, [], _∷_}
+use lib.Dec.{eqb}
+use lib.ListN.{length, getD}
+use Rattle.groups.specs.Numbers.{both}
+use Rattle.numeral.specs.Read.{run}
+use Rattle.numeral.specs.declared.reader.Fraction.{Fraction}
+use Rattle.numeral.specs.declared.reader.Fraction.the-variants.{Places, Other}
+
+-- the text begins "00"
+unfoldable pub zeroZero : List ℕ → Bool
+zeroZero [] = false
+zeroZero (x ∷ []) = false
+zeroZero (x ∷ y ∷ xs) = both (eqb x 48) (eqb y 48)
+
+-- the fraction after integral digits: no point, or a point and digits to the end, or something else
+unfoldable pub fractionAt : List ℕ → Fraction
+fractionAt [] = Places 0
+fractionAt (x ∷ xs) = cond (both (eqb x 46) (eqb (run xs) (length xs))) (Places (length xs)) Other
+
+-- how many of the first n digits are 0, up to the first that is not
+unfoldable pub zerosIn : ℕ → List ℕ → ℕ
+zerosIn zero ds = 0
+zerosIn (suc n) [] = 0
+zerosIn (suc n) (d ∷ ds) = cond (eqb d 0) (suc (zerosIn n ds)) 0
+
+-- the first n are digits
+abbrev pub DigitsTo : ℕ → List ℕ → Type 0
+DigitsTo n ds = (k : ℕ) → k < n → getD ds k 0 < 10
