@@ -43,7 +43,7 @@ module _ (b : ℕ) where
       let q : x ≡ y = same 0 (omega arith) in
       rw (← n, ← q) (omega arith)
 
-  zeros-before : (n : ℕ) (xs : List ℕ) → number b (replicate n 0 ++ xs) ≡ number b xs
+  pub zeros-before : (n : ℕ) (xs : List ℕ) → number b (replicate n 0 ++ xs) ≡ number b xs
   unfolding number
   zeros-before zero xs = refl
   zeros-before (suc n) xs = rw (zero-mul, zero-add) (zeros-before n xs)
@@ -53,7 +53,7 @@ module _ (b : ℕ) where
   zeros-only zero = refl
   zeros-only (suc n) = rw (zero-mul, zero-add) (zeros-only n)
 
-  zeros-after : (xs : List ℕ) (n : ℕ) → number b (xs ++ replicate n 0) ≡ number b xs * b ^ n
+  pub zeros-after : (xs : List ℕ) (n : ℕ) → number b (xs ++ replicate n 0) ≡ number b xs * b ^ n
   unfolding number
   zeros-after [] n = rw zero-mul (zeros-only n)
   zeros-after (x ∷ xs) n =
@@ -69,7 +69,7 @@ zero-at zero j = refl
 zero-at (suc n) zero = refl
 zero-at (suc n) (suc j) = zero-at n j
 
-at-after : (gs : List ℕ) (n j : ℕ) → getD (gs ++ replicate n 0) j 0 ≡ getD gs j 0
+pub at-after : (gs : List ℕ) (n j : ℕ) → getD (gs ++ replicate n 0) j 0 ≡ getD gs j 0
 at-after [] n j = zero-at n j
 at-after (g ∷ gs) n zero = refl
 at-after (g ∷ gs) n (suc j) = at-after gs n j

@@ -2,3 +2,4 @@ pub mod Lex
 pub mod Values
 pub mod Trim
 pub mod Cases
+pub mod Texts

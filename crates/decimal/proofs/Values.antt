@@ -22,7 +22,7 @@ use Rattle.decimal.specs.declared.Compared.{Compared}
 use Rattle.decimal.specs.declared.Compared.the-variants.{Less, Equal, Greater}
 use Rattle.groups.proofs.Accept.{both-true}
 use Rattle.groups.proofs.Tab.{all-each}
-use Rattle.groups.proofs.Places.{stored-lt}
+use Rattle.groups.proofs.Places.{stored-lt, digits-le}
 use Rattle.decimal.proofs.Lex.{pow-pos-of}
 
 -- ---- signs
@@ -73,14 +73,6 @@ unfolding belowZero isNought magnitude
 below-zero-is s n gs = rw (eqb-scaled (number 1000000000 gs) (1000000000 ^ n) (pow-pos-of 1000000000 n (lit< tt)))
 
 -- ---- groups
-digits-le : (i f k : ℕ) → digitsAt i f k ≤ 9
-unfolding digitsAt side
-digits-le i f k = go (ltb k (groupsOf i))
-  where
-    go : (t : Bool) → cond t (side i (groupsOf i - 1 - k)) (side f (k - groupsOf i)) ≤ 9
-    go true = min-le-left 9 _
-    go false = min-le-left 9 _
-
 pub well-below : (i f : ℕ) (gs : List ℕ) → length gs ≡ 9 → wellFormed i f gs ≡ true → Below 1000000000 gs
 unfolding wellFormed wellAt
 well-below i f gs e h k = go (ltb k 9) refl

@@ -7,6 +7,7 @@ ghost use mathlib.Core.Path.{_≡_};
 ghost use Rattle.groups.specs.Write.{sizeOf, told as countTold};
 ghost use Rattle.decimal.specs.Read.{readBin, readPacked};
 ghost use Rattle.decimal.specs.Write.{binSize, writeBin, binLeaves};
+ghost use Rattle.decimal.specs.Text.{parseText, printTold, printLeaves};
 ghost use Rattle.decimal.specs.Value.{compareTold, told};
 
 // A decimal: as many integral and fractional digits, a sign, and the digits in groups of nine from the point outwards. The groups of
@@ -86,6 +87,35 @@ impl Decimal {
     {
         let gs = self.groups;
         groups::write(out, reader::form_of(self.sign), self.intg, self.frac, gs)
+    }
+
+    // The decimal that the text writes.
+    pub fn parse_str_bytes(text: &[u8]) -> Answer
+        ensures { λ r. ⌜ r ≡ parseText (now (text .entry)) ⌝ }
+    {
+        let t = numeral::read(text);
+        if t.refusal != 0 {
+            return reader::refuse(t.refusal);
+        }
+        let digits = t.digits;
+        Answer {
+            refusal: 0,
+            decimal: reader::of_digits(t.negative, t.intg, t.frac, digits),
+        }
+    }
+
+    // Prints the decimal to the front of the output, and counts the characters. A refusal changes nothing.
+    pub fn print(self, out: &mut [u8]) -> Counted
+        ensures { λ r. ⌜ countTold r ≡ printTold self (now (out .entry)) ⌝ }
+        ensures { λ _. ⌜ now (out .exit) ≡ printLeaves self (now (out .entry)) ⌝ }
+    {
+        let gs = self.groups;
+        let mut digits = [0u8; 65];
+        let w = groups::write(&mut digits, groups::Form::Digits, self.intg, self.frac, gs);
+        let Counted::Bytes(_) = w else {
+            return w;
+        };
+        numeral::print(out, self.sign, self.intg, self.frac, &digits)
     }
 
     // The order of the two values.

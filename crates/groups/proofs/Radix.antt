@@ -3,7 +3,7 @@
 use mathlib.Core.Path.{_≡_, refl, sym, ap, _∙_}
 use mathlib.Core.List.{List, [], _∷_, _++_}
 use Prim.Native.Nat.{ℕ, zero, suc, _+_, _*_, _/_, _%_, _^_, _≤_, _<_}
-use native.Mathlib.Nat.{le-trans, le-suc, pow-suc, pow-zero, mul-le-mul-right, pow-le-pow-right}
+use native.Mathlib.Nat.{le-trans, le-suc, pow-suc, pow-zero, mul-le-mul-right, pow-le-pow-right, mod-lt}
 use native.Mathlib.Omega.{arith}
 use native.Mathlib.Numerals.{add-one}
 use lib.ListN.{length, getD, take, drop, length-append, length-drop}
@@ -50,3 +50,18 @@ byte-fits b i w h k l =
     let p : 0 < b = omega arith in
     let m = pow-le-pow-right p {i = i} {j = w} k in
     omega arith
+
+-- ---- bounds of digits
+one-below : (b x : ℕ) → x < b → Below b (x ∷ [])
+one-below b x h zero = h
+one-below b x h (suc k) = omega arith
+
+pub below-append : (b : ℕ) (xs ys : List ℕ) → Below b xs → Below b ys → Below b (xs ++ ys)
+below-append b [] ys h m k = m k
+below-append b (x ∷ xs) ys h m zero = h 0
+below-append b (x ∷ xs) ys h m (suc k) = below-append b xs ys (λ j. h (suc j)) m k
+
+pub digits-below : (b n x : ℕ) → 0 < b → Below b (digits b n x)
+unfolding digits
+digits-below b zero x p k = p
+digits-below b (suc n) x p k = below-append b (digits b n (x / b)) (x % b ∷ []) (digits-below b n (x / b) p) (one-below b (x % b) (mod-lt x p)) k

@@ -10,10 +10,12 @@ use lib.ListN.{replicate, length, getD, take, drop, set, length-append, length-m
 use lib.Seq.{take-set-le, drop-cons, drop-set-lt, getD-set-same, lt-length-set, take-at, drop-at, drop-drop, getD-at, set-at, take-suc, length-take-le}
 use Rattle.groups.specs.Layout.{baseOf, wideOf, digitsAt, offset, sizeIn}
 use Rattle.groups.specs.declared.Form.{Form}
-use Rattle.groups.specs.Numbers.{digits}
+use Rattle.groups.specs.declared.Form.the-variants.{Plain, Inverted, Digits}
+use lib.Dec.{lit<}
+use Rattle.groups.specs.Numbers.{digits, Below}
 use Rattle.groups.specs.Read.{unitOf}
 use Rattle.groups.specs.Write.{digitsTo, groupDigits, written}
-use Rattle.groups.proofs.Radix.{length-digits}
+use Rattle.groups.proofs.Radix.{length-digits, below-append, digits-below}
 use Rattle.groups.proofs.Marks.{length-of}
 
 drop-set-same : (out : List ℕ) (j v : ℕ) → j < length out → drop j (set out j v) ≡ v ∷ drop (suc j) out
@@ -64,3 +66,14 @@ map-more g out out₀ i h e =
 pub length-written : (F : Form) (i f : ℕ) (gs : List ℕ) → length (written F i f gs) ≡ sizeIn F i f
 unfolding written
 length-written F i f gs = length-of F (digitsTo F i f gs 9) ∙ length-to F i f gs 9
+
+-- the digits of all groups are below the base
+pub base-pos : (F : Form) → 0 < baseOf F
+base-pos Plain = lit< tt
+base-pos Inverted = lit< tt
+base-pos Digits = lit< tt
+
+pub to-below : (F : Form) (i f : ℕ) (gs : List ℕ) (k : ℕ) → Below (baseOf F) (digitsTo F i f gs k)
+unfolding digitsTo groupDigits
+to-below F i f gs zero = λ k. base-pos F
+to-below F i f gs (suc k) = below-append (baseOf F) (digitsTo F i f gs k) _ (to-below F i f gs k) (digits-below (baseOf F) _ _ (base-pos F))

@@ -9,14 +9,14 @@ use native.Mathlib.Numerals.{add-one}
 use native.Mathlib.Omega.{arith}
 use lib.Dec.{eqb, leb, ltb}
 use lib.ListN.{length, getD, take, drop, length-append, length-drop, length-map, take-append-drop}
-use lib.Seq.{drop-append-le, drop-at, drop-cons, length-take-le, take-add, take-take}
+use lib.Seq.{take-append-le, drop-append-le, drop-at, drop-cons, length-take-le, take-add, take-take}
 use borrow.Author.Tests.{eq-eqb, ne-eqb, le-leb, lt-ltb, leb-true, ltb-true}
 use Rattle.groups.specs.Numbers.{both, all}
 use Rattle.groups.specs.Layout.{side, groupsOf}
 use Rattle.groups.proofs.Accept.{both-true, is-false}
 use Rattle.groups.proofs.Store.{join}
 use Rattle.groups.proofs.Tab.{all-true, all-each}
-use Rattle.numeral.specs.Print.{show, unpadded, firstDigits, wholeDigits, fractionText, areDigits}
+use Rattle.numeral.specs.Print.{show, unpadded, firstDigits, wholeDigits, fractionText, textOf, areDigits}
 use Rattle.numeral.specs.Course.{zerosIn, DigitsTo}
 
 -- ---- zeros at the front
@@ -137,3 +137,21 @@ pub all-digits : (i f : ℕ) (ds : List ℕ) → i + f ≤ 65 → i + f ≤ leng
 unfolding areDigits
 all-digits i f ds h l d =
     simp (le-leb _ _ h, le-leb _ _ l) (all-true (λ k. ltb (getD ds k 0) 10) (i + f) (λ k m. lt-ltb _ _ (d k m)))
+
+-- ---- what follows the digits does not matter
+first-le : (i : ℕ) → firstDigits i ≤ i
+unfolding side
+first-le i = omega arith
+
+pub text-front : (neg : Bool) (i f : ℕ) (ds rest : List ℕ) → i + f ≤ length ds → textOf neg i f (ds ++ rest) ≡ textOf neg i f ds
+unfolding wholeDigits fractionText
+text-front neg i f ds rest l =
+    let h = first-le i in
+    let m : firstDigits i ≤ length ds = omega arith in
+    let n : i ≤ length ds = omega arith in
+    rw (
+      take-append-le (firstDigits i) ds rest m,
+      take-append-le i ds rest n,
+      drop-append-le i ds rest n,
+      take-append-le f (drop i ds) rest (simp length-drop (omega arith)),
+    )
