@@ -1,5 +1,4 @@
 pub mod Lex
 pub mod Values
-pub mod Trim
 pub mod Cases
 pub mod Texts

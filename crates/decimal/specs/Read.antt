@@ -1,12 +1,12 @@
 -- What reading a packed decimal answers (decimal.c of MySQL; document 01, 'Decimal rules'). The groups are read by `readGroups` of the crate
 -- groups, with its refusals 20, 21 and 22; here stand the sign, the precision that is kept or not, and the packed header.
 -- Assumes nothing.
-use Prim.Native.Nat.{ℕ, zero, suc, _+_, _-_, _*_}
+use Prim.Native.Nat.{ℕ, _+_, _-_, _*_}
 use mathlib.Core.Bool.{Bool, true, false, cond}
 use mathlib.Core.List.{List, [], _∷_}
 use lib.Dec.{ltb, eqb}
 use lib.ListN.{getD}
-use Rattle.groups.specs.Numbers.{tab}
+use Rattle.groups.specs.Numbers.{tab, leadingIn}
 use Rattle.groups.specs.Layout.{groupsOf}
 use Rattle.groups.specs.Read.{readGroups, zeros}
 use Rattle.groups.specs.declared.Form.{Form}
@@ -31,12 +31,6 @@ nought = record { intg = 1; frac = 0; sign = false; groups = zeros }
 -- a decimal with these parts, and positive 0 where no digit is left
 unfoldable pub decimalOf : ℕ → ℕ → Bool → List ℕ → Decimal
 decimalOf i f neg gs = cond (eqb (i + f) 0) nought (record { intg = i; frac = f; sign = neg; groups = gs })
-
--- how many of the first n are zero, up to the first that is not
-unfoldable pub leadingIn : ℕ → List ℕ → ℕ
-leadingIn zero xs = 0
-leadingIn (suc n) [] = 0
-leadingIn (suc n) (x ∷ xs) = cond (eqb x 0) (suc (leadingIn n xs)) 0
 
 -- without its first z integral groups. Past the first all integral groups are whole
 unfoldable pub without : ℕ → ℕ → ℕ → Bool → List ℕ → Decimal

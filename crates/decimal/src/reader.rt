@@ -6,9 +6,9 @@ use groups::Form;
 ghost use mathlib.Core.Path.{_≡_};
 ghost use Prim.Native.Nat.{_+_, _<_, _≤_};
 ghost use lib.ListN.{getD, length};
-ghost use Rattle.groups.specs.Numbers.{tab, Below};
+ghost use Rattle.groups.specs.Numbers.{tab, leadingIn, Below};
 ghost use Rattle.decimal.specs.Text.{ofDigits};
-ghost use Rattle.decimal.specs.Read.{negative as isNegative, formOf, leadingIn, decimalOf, finished, refused};
+ghost use Rattle.decimal.specs.Read.{negative as isNegative, formOf, decimalOf, finished, refused};
 
 pub(crate) fn wide(b: u8) -> usize
     ensures { λ r. ⌜ r ≡ b ⌝ }

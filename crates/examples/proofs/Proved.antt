@@ -3,13 +3,13 @@
 use mathlib.Core.Path.{_≡_, refl}
 use mathlib.Core.List.{map}
 use Rattle.refusal.specs.Told.{Told}
-use Rattle.groups.specs.Numbers.{number, digits, tab}
+use Rattle.groups.specs.Numbers.{number, digits, tab, leadingIn}
 use Rattle.groups.specs.Layout.{width, groupsOf, side, digitsAt, offset}
 use Rattle.groups.specs.Packed.{flip, flipFirst, digitsIn}
 use Rattle.groups.specs.Read.{inRange, groupAt, rangeAt, unitOf, storedAt, groupsIn, readGroups}
 use Rattle.groups.specs.Write.{groupDigits, digitsTo}
 use Rattle.numeral.specs.Print.{unpadded, wholeDigits, fractionText}
-use Rattle.decimal.specs.Read.{negative, decimalOf, leadingIn, without, finished, fromGroups, readBin, readPacked}
+use Rattle.decimal.specs.Read.{negative, decimalOf, without, finished, fromGroups, readBin, readPacked}
 use Rattle.decimal.specs.Text.{printed}
 use Rattle.examples.specs.Paper.{Row, printedOr, asked, table}
 

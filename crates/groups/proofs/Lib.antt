@@ -1,5 +1,6 @@
 pub mod Finite
 pub mod Tab
+pub mod Trim
 pub mod Accept
 pub mod Sizes
 pub mod Radix

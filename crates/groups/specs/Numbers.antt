@@ -1,9 +1,10 @@
 -- Digits and lists in general: the number that digits in a base write, highest first; the lowest digits of a number; a list by its
--- elements; a test at every number below n.
+-- elements; a test at every number below n; leading zeros.
 -- Assumes nothing.
 use Prim.Native.Nat.{ℕ, zero, suc, _+_, _*_, _/_, _%_, _^_, _<_}
-use mathlib.Core.Bool.{Bool, true, false}
+use mathlib.Core.Bool.{Bool, true, false, cond}
 use mathlib.Core.List.{List, [], _∷_, _++_}
+use lib.Dec.{eqb}
 use lib.ListN.{length, getD}
 
 -- the number that the digits xs write in base b
@@ -33,3 +34,9 @@ all (suc n) p = both (p n) (all n p)
 -- every element is below b
 abbrev pub Below : ℕ → List ℕ → Type 0
 Below b xs = (k : ℕ) → getD xs k 0 < b
+
+-- how many of the first n are zero, up to the first that is not
+unfoldable pub leadingIn : ℕ → List ℕ → ℕ
+leadingIn zero xs = 0
+leadingIn (suc n) [] = 0
+leadingIn (suc n) (x ∷ xs) = cond (eqb x 0) (suc (leadingIn n xs)) 0

@@ -11,47 +11,35 @@ use lib.Dec.{eqb, leb, ltb}
 use lib.ListN.{length, getD, take, drop, length-append, length-drop, length-map, take-append-drop}
 use lib.Seq.{take-append-le, drop-append-le, drop-at, drop-cons, length-take-le, take-add, take-take}
 use borrow.Author.Tests.{eq-eqb, ne-eqb, le-leb, lt-ltb, leb-true, ltb-true}
-use Rattle.groups.specs.Numbers.{both, all}
+use Rattle.groups.specs.Numbers.{both, all, leadingIn}
 use Rattle.groups.specs.Layout.{side, groupsOf}
 use Rattle.groups.proofs.Accept.{both-true, is-false}
 use Rattle.groups.proofs.Store.{join}
 use Rattle.groups.proofs.Tab.{all-true, all-each}
 use Rattle.numeral.specs.Print.{show, unpadded, firstDigits, wholeDigits, fractionText, textOf, areDigits}
-use Rattle.numeral.specs.Course.{zerosIn, DigitsTo}
+use Rattle.numeral.specs.Course.{DigitsTo}
 
 -- ---- zeros at the front
-pub zeros-stop : (m z : ℕ) (ds : List ℕ) → z < length ds → (getD ds z 0 ≡ 0 → ⊥) → zerosIn m (drop z ds) ≡ 0
-unfolding zerosIn
-zeros-stop zero z ds l h = refl
-zeros-stop (suc m) z ds l h = rw (drop-cons ds z 0 l) (simp (ne-eqb (getD ds z 0) 0 h))
-
-pub zeros-more : (n z : ℕ) (ds : List ℕ) → z < n → z < length ds → getD ds z 0 ≡ 0
-    → zerosIn (n - z) (drop z ds) ≡ suc (zerosIn (n - (z + 1)) (drop (z + 1) ds))
-unfolding zerosIn
-zeros-more n z ds k l h =
-    let e : n - z ≡ suc (n - (z + 1)) = omega arith in
-    rw (e, drop-cons ds z 0 l) (simp (eq-eqb (getD ds z 0) 0 h, add-one))
-
-zeros-le : (n : ℕ) (ds : List ℕ) → zerosIn n ds ≤ n
-unfolding zerosIn
+zeros-le : (n : ℕ) (ds : List ℕ) → leadingIn n ds ≤ n
+unfolding leadingIn
 zeros-le zero ds = zero-le
 zeros-le (suc n) [] = zero-le
 zeros-le (suc n) (d ∷ ds) = go (eqb d 0) (zeros-le n ds)
   where
-    go : (t : Bool) → zerosIn n ds ≤ n → cond t (suc (zerosIn n ds)) 0 ≤ suc n
+    go : (t : Bool) → leadingIn n ds ≤ n → cond t (suc (leadingIn n ds)) 0 ≤ suc n
     go true h = suc-le-suc h
     go false h = zero-le
 
 -- ---- the integral digits
-unpadded-is : (n : ℕ) (ds : List ℕ) → n < length ds → unpadded (take (suc n) ds) ≡ drop (zerosIn n ds) (take (suc n) ds)
-unfolding unpadded zerosIn
+unpadded-is : (n : ℕ) (ds : List ℕ) → n < length ds → unpadded (take (suc n) ds) ≡ drop (leadingIn n ds) (take (suc n) ds)
+unfolding unpadded leadingIn
 unpadded-is n [] h = absurd (not-suc-le-zero h)
 unpadded-is zero (d ∷ ds) h = refl
 unpadded-is (suc n) (d ∷ []) h = absurd (omega arith)
 unpadded-is (suc n) (d ∷ e ∷ ds) h = go (eqb d 0) (unpadded-is n (e ∷ ds) (le-of-suc-le-suc h))
   where
-    go : (t : Bool) → unpadded (e ∷ take n ds) ≡ drop (zerosIn n (e ∷ ds)) (e ∷ take n ds)
-        → cond t (unpadded (e ∷ take n ds)) (d ∷ e ∷ take n ds) ≡ drop (cond t (suc (zerosIn n (e ∷ ds))) 0) (d ∷ e ∷ take n ds)
+    go : (t : Bool) → unpadded (e ∷ take n ds) ≡ drop (leadingIn n (e ∷ ds)) (e ∷ take n ds)
+        → cond t (unpadded (e ∷ take n ds)) (d ∷ e ∷ take n ds) ≡ drop (cond t (suc (leadingIn n (e ∷ ds))) 0) (d ∷ e ∷ take n ds)
     go true r = r
     go false r = refl
 
@@ -70,7 +58,7 @@ pub whole-none : (i : ℕ) (ds : List ℕ) → i ≡ 0 → wholeDigits i ds ≡ 
 unfolding wholeDigits
 whole-none i ds h = simp (eq-eqb i 0 h)
 
-module _ (i : ℕ) (ds : List ℕ) {z : ℕ} (e : z ≡ zerosIn ((i - 1) % 9) ds) (h : i ≡ 0 → ⊥) (l : i ≤ length ds) where
+module _ (i : ℕ) (ds : List ℕ) {z : ℕ} (e : z ≡ leadingIn ((i - 1) % 9) ds) (h : i ≡ 0 → ⊥) (l : i ≤ length ds) where
   pub whole-is : wholeDigits i ds ≡ take (i - z) (drop z ds)
   unfolding wholeDigits
   whole-is =

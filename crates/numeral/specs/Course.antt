@@ -1,6 +1,6 @@
 -- What private functions do on the way; no public promise rests on it.
 -- Assumes nothing.
-use Prim.Native.Nat.{ℕ, zero, suc, _<_}
+use Prim.Native.Nat.{ℕ, _<_}
 use mathlib.Core.Bool.{Bool, false, cond}
 use mathlib.Core.List.{List, [], _∷_}
 use lib.Dec.{eqb}
@@ -20,12 +20,6 @@ zeroZero (x ∷ y ∷ xs) = both (eqb x 48) (eqb y 48)
 unfoldable pub fractionAt : List ℕ → Fraction
 fractionAt [] = Places 0
 fractionAt (x ∷ xs) = cond (both (eqb x 46) (eqb (run xs) (length xs))) (Places (length xs)) Other
-
--- how many of the first n digits are 0, up to the first that is not
-unfoldable pub zerosIn : ℕ → List ℕ → ℕ
-zerosIn zero ds = 0
-zerosIn (suc n) [] = 0
-zerosIn (suc n) (d ∷ ds) = cond (eqb d 0) (suc (zerosIn n ds)) 0
 
 -- the first n are digits
 abbrev pub DigitsTo : ℕ → List ℕ → Type 0

@@ -4,14 +4,15 @@ ghost use mathlib.Core.Path.{_≡_};
 ghost use mathlib.Core.List.{_∷_, _++_, map};
 ghost use Prim.Native.Nat.{_+_, _<_, _≤_};
 ghost use lib.ListN.{length, take, drop};
+ghost use Rattle.groups.specs.Numbers.{leadingIn};
 ghost use Rattle.groups.specs.Write.{told};
 ghost use Rattle.numeral.specs.Print.{show, wholeDigits, fractionText, signText, textOf, areDigits, printTold, printLeaves};
-ghost use Rattle.numeral.specs.Course.{zerosIn, DigitsTo};
+ghost use Rattle.numeral.specs.Course.{DigitsTo};
 
 // How many of the first n digits are 0, up to the first that is not.
 fn padding(digits: &[u8], n: usize) -> usize
     requires { ⌜ n ≤ length (now digits) ⌝ }
-    ensures { λ r. ⌜ (r ≡ zerosIn n (now (digits .entry))) × (r ≤ n) ⌝ }
+    ensures { λ r. ⌜ (r ≡ leadingIn n (now (digits .entry))) × (r ≤ n) ⌝ }
 {
     let mut z = 0;
     while z < n {

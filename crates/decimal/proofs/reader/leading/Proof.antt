@@ -6,8 +6,8 @@ use mathlib.Core.Path.{_≡_, refl}
 use native.Mathlib.Nat.{sub-zero, zero-add}
 use native.Mathlib.Omega.{arith}
 use lib.ListN.{length, getD, drop}
-use Rattle.decimal.specs.Read.{leadingIn}
-use Rattle.decimal.proofs.Trim.{leading-stop, leading-more}
+use Rattle.groups.specs.Numbers.{leadingIn}
+use Rattle.groups.proofs.Trim.{leading-stop, leading-more}
 use Rattle.decimal.proofs.reader.leading.Statement.{statement}
 use Rattle.decimal.proofs.reader.leading.Tie as tie
 

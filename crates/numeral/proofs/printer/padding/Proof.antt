@@ -7,13 +7,13 @@ use mathlib.Core.Path.{_≡_}
 use native.Mathlib.Nat.{sub-zero, zero-add}
 use native.Mathlib.Omega.{arith}
 use lib.ListN.{drop}
-use Rattle.numeral.specs.Course.{zerosIn}
-use Rattle.numeral.proofs.Shown.{zeros-stop, zeros-more}
+use Rattle.groups.specs.Numbers.{leadingIn}
+use Rattle.groups.proofs.Trim.{leading-stop, leading-more}
 use Rattle.numeral.proofs.printer.padding.Statement.{statement}
 use Rattle.numeral.proofs.printer.padding.Tie as tie
 
 abbrev Inv-loop : tie.InvT-loop
-Inv-loop digits n z₀ z = (z ≤ n) × (zerosIn n digits ≡ z + zerosIn (n - z) (drop z digits))
+Inv-loop digits n z₀ z = (z ≤ n) × (leadingIn n digits ≡ z + leadingIn (n - z) (drop z digits))
 
 abbrev μ-loop : tie.MeasureT-loop
 μ-loop digits n z₀ z = n - z
@@ -28,7 +28,7 @@ returns : tie.Need-returns Inv-loop μ-loop
 returns c =
     let l = c .before .before .before .loop in
     let a = c .before .before .before .before .args in
-    let q = zeros-stop (a .n - l .z) (l .z) (now (a .digits)) (omega arith) (c .if1 .taken) in
+    let q = leading-stop (a .n - l .z) (l .z) (now (a .digits)) (omega arith) (c .if1 .taken) in
     omega arith
 
 add-z : tie.Need-add-z Inv-loop μ-loop
@@ -41,16 +41,16 @@ loop-again : tie.Need-loop-again Inv-loop μ-loop
 loop-again c =
     let l = c .before .before .before .loop in
     let a = c .before .before .before .before .args in
-    let q = zeros-more (a .n) (l .z) (now (a .digits)) (search needs) (omega arith) (c .if1 .left) in
+    let q = leading-more (a .n) (l .z) (now (a .digits)) (search needs) (omega arith) (c .if1 .left) in
     omega arith
 
 returns-2 : tie.Need-returns-2 Inv-loop μ-loop
-unfolding zerosIn
+unfolding leadingIn
 returns-2 c =
     let l = c .before .loop in
     let a = c .before .before .args in
     let z : a .n - l .z ≡ 0 = omega arith in
-    let q : zerosIn (a .n - l .z) (drop (l .z) (now (a .digits))) ≡ 0 = rw z in
+    let q : leadingIn (a .n - l .z) (drop (l .z) (now (a .digits))) ≡ 0 = rw z in
     omega arith
 
 pub padding-spec : {M : Type 1} → statement M
