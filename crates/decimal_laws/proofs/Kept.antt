@@ -83,7 +83,7 @@ signed-zero : (neg : Bool) → signed neg 0 ≡ pos 0
 signed-zero true = refl
 signed-zero false = refl
 
-zero-value : (neg : Bool) (n : ℕ) (gs : List ℕ) → number 1000000000 gs ≡ 0 → signed neg (magnitude n gs) ≡ pos 0
+pub zero-value : (neg : Bool) (n : ℕ) (gs : List ℕ) → number 1000000000 gs ≡ 0 → signed neg (magnitude n gs) ≡ pos 0
 unfolding magnitude
 zero-value neg n gs h = rw (h, zero-mul) (signed-zero neg)
 

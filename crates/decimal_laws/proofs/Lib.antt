@@ -2,4 +2,9 @@ pub mod Bytes
 pub mod Places
 pub mod RoundTrip
 pub mod Kept
+pub mod Later
+pub mod Weights
+pub mod Trimmed
+pub mod Reparsed
+pub mod Printed
 pub mod Answers

@@ -21,6 +21,7 @@ use Rattle.groups.specs.declared.Form.the-variants.{Plain, Inverted, Digits}
 use Rattle.groups.proofs.Accept.{both-true}
 use Rattle.decimal.specs.Read.{formOf}
 use Rattle.groups.proofs.Finite.{at}
+use Rattle.groups.proofs.Tab.{all-each}
 use Rattle.groups.proofs.Radix.{number-snoc, length-digits}
 use Rattle.groups.proofs.Places.{within, offset-more, offset-mono, digits-le}
 use Rattle.groups.proofs.Store.{length-to, base-pos}
@@ -104,6 +105,10 @@ unfolding width
 holds Plain d h = leb→le _ _ (at (λ d. leb (10 ^ d) (256 ^ width d)) 10 tt d (omega arith))
 holds Inverted d h = leb→le _ _ (at (λ d. leb (10 ^ d) (256 ^ width d)) 10 tt d (omega arith))
 holds Digits d h = le-refl (10 ^ d)
+
+pub each-well : (i f : ℕ) (gs : List ℕ) → wellFormed i f gs ≡ true → (k : ℕ) → k < 9 → wellAt i f k (getD gs k 0) ≡ true
+unfolding wellFormed
+each-well i f gs w = all-each (λ k. wellAt i f k (getD gs k 0)) 9 (both-true (digitsOk i f) (all 9 (λ k. wellAt i f k (getD gs k 0))) w .1)
 
 module _ (F : Form) (i f : ℕ) (gs : List ℕ) (k : ℕ) (m : k < 9) (w : wellAt i f k (getD gs k 0) ≡ true) where
   split-well : (getD gs k 0 % unitOf i k (digitsAt i f k) ≡ 0) × (getD gs k 0 / unitOf i k (digitsAt i f k) < 10 ^ digitsAt i f k)

@@ -19,7 +19,7 @@ use Rattle.groups.specs.Write.{digitsOk, groupDigits, digitsTo, wellAt, wellFor
 use Rattle.groups.specs.declared.Form.{Form}
 use Rattle.groups.specs.declared.Form.the-variants.{Plain, Inverted}
 use Rattle.groups.specs.declared.Groups.{Groups}
-use Rattle.groups.proofs.Accept.{in-range, both-true, well-digits}
+use Rattle.groups.proofs.Accept.{in-range, well-digits}
 use Rattle.groups.proofs.Tab.{tab-at, filled, all-true, all-each}
 use Rattle.groups.proofs.Radix.{digits-number}
 use Rattle.groups.proofs.Marks.{length-in}
@@ -34,7 +34,7 @@ use Rattle.decimal.specs.declared.Decimal.{Decimal}
 use Rattle.decimal.specs.declared.Answer.{Answer}
 use Rattle.decimal.proofs.Cases.{groups-read}
 use Rattle.decimal_laws.proofs.Bytes.{digits-below, read-bytes, after, write-bytes, write-sign}
-use Rattle.decimal_laws.proofs.Places.{range-front, stored-front, range-written, stored-written, first-byte}
+use Rattle.decimal_laws.proofs.Places.{range-front, stored-front, each-well, range-written, stored-written, first-byte}
 
 -- ---- groups that were read, written again
 module _ (F : Form) (i f : ℕ) (ds : List ℕ) (h : Below (baseOf F) ds) (l : sizeIn F i f ≤ length ds) where
@@ -76,7 +76,7 @@ module _ (bs : List ℕ) (p s : ℕ) where
       groups-read (readGroups (formOf (negative bs)) bs p s) (p - s) s (negative bs) true z ∙ simp (n, reads (formOf (negative bs)) bs p s (o .0) (o .1 .0) (o .1 .1))
 
 -- ---- the form of a sign
-packed-size : (neg : Bool) (i f : ℕ) → sizeIn (formOf neg) i f ≡ size i f
+pub packed-size : (neg : Bool) (i f : ℕ) → sizeIn (formOf neg) i f ≡ size i f
 packed-size true i f = inverted-offset i f 9
 packed-size false i f = refl
 
@@ -112,16 +112,12 @@ read-write bs out p s h l e n =
 
 -- groups that were written, read again
 module _ (neg : Bool) (i f : ℕ) (gs rest : List ℕ) (n : length gs ≡ 9) (w : wellFormed i f gs ≡ true) where
-  each-well : (k : ℕ) → k < 9 → wellAt i f k (getD gs k 0) ≡ true
-  unfolding wellFormed
-  each-well = all-each (λ k. wellAt i f k (getD gs k 0)) 9 (both-true (digitsOk i f) (all 9 (λ k. wellAt i f k (getD gs k 0))) w .1)
-
   some : 0 < length (digitsTo (formOf neg) i f gs 9)
   some = let h = well-digits i f gs w in rw (length-to (formOf neg) i f gs 9) (size-pos (formOf neg) i f (h .1 .1) (h .1 .0) (h .0))
 
   pub sign-back : negative (written (formOf neg) i f gs ++ rest) ≡ neg
   unfolding written
-  sign-back = write-sign neg (digitsTo (formOf neg) i f gs 9) rest some (first-byte neg i f gs (well-digits i f gs w .0) (each-well 0 (lit< tt)))
+  sign-back = write-sign neg (digitsTo (formOf neg) i f gs 9) rest some (first-byte neg i f gs (well-digits i f gs w .0) (each-well i f gs w 0 (lit< tt)))
 
   digits-back : digitsIn (formOf neg) (written (formOf neg) i f gs ++ rest) ≡ digitsTo (formOf neg) i f gs 9 ++ after neg rest
   unfolding written
@@ -137,9 +133,9 @@ module _ (neg : Bool) (i f : ℕ) (gs rest : List ℕ) (n : length gs ≡ 9) (w 
       let e : i + f - f ≡ i = omega arith in
       let l : sizeIn F i f ≤ length BS = (let q = length-append (written F i f gs) rest in let m = length-written F i f gs in omega arith) in
       let m : sizeIn F i f ≤ length D = le-of-eq (sym (length-to F i f gs 9)) in
-      let a : all 9 (rangeAt F i f (D ++ X)) ≡ true = all-true (rangeAt F i f (D ++ X)) 9 (λ k j. range-front F i f D X m k j ∙ range-written F i f gs k j (each-well k j)) in
+      let a : all 9 (rangeAt F i f (D ++ X)) ≡ true = all-true (rangeAt F i f (D ++ X)) 9 (λ k j. range-front F i f D X m k j ∙ range-written F i f gs k j (each-well i f gs w k j)) in
       let t : gs ≡ tab 9 (storedAt F i f (D ++ X)) =
-      filled 9 (storedAt F i f (D ++ X)) gs n (λ k j. sym (stored-front F i f D X m k j ∙ stored-written F i f gs k j (each-well k j))) in
+      filled 9 (storedAt F i f (D ++ X)) gs n (λ k j. sym (stored-front F i f D X m k j ∙ stored-written F i f gs k j (each-well i f gs w k j))) in
       reads F BS (i + f) f (range-of i f (h .1 .1) (h .1 .0)) (rw e l) (rw (e, digits-back) a) ∙ rw (e, digits-back, ← t)
 
 -- Writing then reading, whatever follows: the decimal.
