@@ -1,10 +1,10 @@
 -- Numbers of as many digits are in the order of the first place where they differ; and nine groups among seventeen places.
 -- Assumes nothing.
-use mathlib.Core.Path.{_≡_, refl, sym, ap, _∙_, subst}
+use mathlib.Core.Path.{_≡_, refl, sym, ap, _∙_}
 use mathlib.Core.Bool.{Bool, true, false, cond}
 use mathlib.Core.List.{List, [], _∷_, _++_}
 use Prim.Native.Nat.{ℕ, zero, suc, _+_, _-_, _*_, _^_, _≤_, _<_}
-use native.Mathlib.Nat.{le-of-suc-le-suc, not-suc-le-zero, pow-zero, pow-succ', zero-mul, zero-add, add-zero, mul-le-mul-right, lt-of-lt-of-le, zero-sub, sub-zero, suc-sub-suc, le-refl, le-of-lt, mul-pos, pos-of-ne-zero}
+use native.Mathlib.Nat.{le-of-suc-le-suc, not-suc-le-zero, pow-zero, pow-succ', zero-mul, zero-add, mul-le-mul-right, sub-zero, suc-sub-suc, le-refl, le-of-lt, mul-pos, pos-of-ne-zero}
 use native.Mathlib.Omega.{arith}
 use lib.Dec.{ltb, lit<, leb·suc-suc}
 use lib.Pow.{pow-add}

@@ -6,22 +6,19 @@ use mathlib.Core.List.{List, [], _∷_, _++_}
 use Prim.Native.Nat.{ℕ, _+_, _≤_, _<_}
 use native.Mathlib.Nat.{le-of-eq}
 use native.Mathlib.Omega.{arith}
-use lib.Dec.{eqb}
 use lib.ListN.{length, getD, drop, replicate, length-replicate, length-append, List·getD-append}
 use borrow.Author.Tests.{eq-eqb, ne-eqb}
 use Rattle.refusal.specs.Told.{Told, answer, refusal}
 use Rattle.groups.specs.Layout.{sizeIn}
 use Rattle.groups.specs.Packed.{bytesOf}
-use Rattle.groups.specs.Write.{wellFormed, digitsTo, written, writeTold, writeLeaves, told}
+use Rattle.groups.specs.Write.{written, writeTold, writeLeaves}
 use Rattle.groups.specs.declared.Form.the-variants.{Digits}
-use Rattle.groups.specs.declared.Counted.{Counted}
-use Rattle.groups.specs.declared.Counted.the-variants.{Bytes, Refused}
 use Rattle.groups.proofs.Accept.{well-digits, is-false}
 use Rattle.groups.proofs.Sizes.{digits-size}
 use Rattle.groups.proofs.Store.{length-to, to-below}
 use Rattle.groups.proofs.Room.{writes}
 use Rattle.numeral.specs.Read.{readText}
-use Rattle.numeral.specs.Print.{textOf, areDigits, printTold as textTold, printLeaves as textLeaves}
+use Rattle.numeral.specs.Print.{areDigits, printTold as textTold, printLeaves as textLeaves}
 use Rattle.numeral.proofs.Shown.{all-digits, text-front}
 use Rattle.decimal.specs.Read.{refused, accepted}
 use Rattle.decimal.specs.Write.{isWell}

@@ -1,25 +1,22 @@
 -- The order of values by signs and magnitudes, and what a well formed decimal's groups are.
 -- Assumes nothing.
-use mathlib.Core.Path.{_≡_, refl, sym, ap, _∙_, subst}
-use mathlib.Core.Bool.{Bool, true, false, cond, not}
-use mathlib.Core.Logic.{⊎-elim}
+use mathlib.Core.Path.{_≡_, refl, sym, _∙_, subst}
+use mathlib.Core.Bool.{Bool, true, false, not}
 use mathlib.Core.List.{List}
-use Prim.Native.Nat.{ℕ, zero, suc, _+_, _-_, _*_, _/_, _%_, _^_, _≤_, _<_}
-use native.Mathlib.Nat.{zero-mul, mul-pos, min-le-left, le-refl, le-of-eq, div-add-mod'}
+use Prim.Native.Nat.{ℕ, zero, suc, _*_, _/_, _%_, _^_, _≤_, _<_}
+use native.Mathlib.Nat.{zero-mul, mul-pos, div-add-mod'}
 use native.Mathlib.Omega.{arith}
-use lib.Dec.{T, ltb, leb, eqb, lit<, leb·suc-suc, leb·zero, leb·suc-zero, eqb·suc-zero}
-use lib.IntN.{ℤ, pos, negsuc, negℤ}
-use lib.Signed.{ltZ}
+use lib.Dec.{T, ltb, eqb, lit<, leb·suc-suc, eqb·suc-zero}
+use lib.IntN.{pos}
 use lib.ListN.{length, getD, List·getD-eq-default}
-use borrow.Author.Tests.{ltb-true, ltb-false, lt-ltb, le-ltb, eqb-true, ne-eqb, eq-eqb}
-use Rattle.groups.specs.Layout.{groupsOf, side, digitsAt}
+use borrow.Author.Tests.{ltb-true, ltb-false, eqb-true, ne-eqb}
+use Rattle.groups.specs.Layout.{digitsAt}
 use Rattle.groups.specs.Numbers.{number, Below, both, all}
 use Rattle.groups.specs.Read.{unitOf}
 use Rattle.groups.specs.Write.{wellAt, wellFormed, digitsOk}
 use Rattle.decimal.specs.Value.{magnitude, signed, isNought, belowZero, orderZ}
 use Rattle.decimal.specs.Course.{orderN}
-use Rattle.decimal.specs.declared.Compared.{Compared}
-use Rattle.decimal.specs.declared.Compared.the-variants.{Less, Equal, Greater}
+use Rattle.decimal.specs.declared.Compared.the-variants.{Less, Greater}
 use Rattle.groups.proofs.Accept.{both-true}
 use Rattle.groups.proofs.Tab.{all-each}
 use Rattle.groups.proofs.Places.{stored-lt, digits-le}

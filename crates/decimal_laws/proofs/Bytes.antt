@@ -1,9 +1,9 @@
 -- Bytes there and back: flipping and inverting undo themselves, and the first bit tells the sign. A byte's own laws are tests at all 256.
 -- Assumes nothing.
-use mathlib.Core.Path.{_≡_, refl, sym, ap, _∙_}
+use mathlib.Core.Path.{_≡_, refl, ap, _∙_}
 use mathlib.Core.Bool.{Bool, true, false}
 use mathlib.Core.List.{List, [], _∷_, _++_, map, map-append}
-use Prim.Native.Nat.{ℕ, zero, suc, _-_, _≤_, _<_}
+use Prim.Native.Nat.{ℕ, zero, suc, _<_}
 use native.Mathlib.Nat.{not-suc-le-zero}
 use native.Mathlib.Omega.{arith}
 use lib.Dec.{eqb, ltb, leb, eqb→eq, ltb→lt, leb→le}
@@ -11,8 +11,6 @@ use lib.ListN.{length, getD, take, length-map}
 use borrow.Author.Tests.{le-ltb, lt-ltb}
 use Rattle.groups.specs.Numbers.{Below}
 use Rattle.groups.specs.Packed.{flip, flipFirst, invert, bytesOf, digitsIn}
-use Rattle.groups.specs.declared.Form.{Form}
-use Rattle.groups.specs.declared.Form.the-variants.{Plain, Inverted, Digits}
 use Rattle.groups.proofs.Finite.{at}
 use Rattle.groups.proofs.Marks.{flip-front, length-flip}
 use Rattle.decimal.specs.Read.{negative, formOf}

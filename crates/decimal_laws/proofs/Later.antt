@@ -1,10 +1,10 @@
 -- Bytes after those that a decimal takes are not read: with them and without them the answer is the same. The sign stands in the first byte, each
 -- group in its own bytes, and 0 with 0 looks at none.
 -- Assumes nothing.
-use mathlib.Core.Path.{_≡_, refl, sym, ap, _∙_}
-use mathlib.Core.Bool.{Bool, true, false, cond}
+use mathlib.Core.Path.{_≡_, refl, sym, _∙_}
+use mathlib.Core.Bool.{Bool, true, false}
 use mathlib.Core.List.{List, [], _∷_, _++_, map-append}
-use Prim.Native.Nat.{ℕ, zero, suc, _+_, _-_, _≤_, _<_}
+use Prim.Native.Nat.{ℕ, zero, suc, _-_, _≤_, _<_}
 use native.Mathlib.Nat.{le-trans, le-refl, le-suc}
 use native.Mathlib.Omega.{arith}
 use lib.Dec.{leb, ltb}
@@ -13,14 +13,14 @@ use borrow.Author.Tests.{le-leb}
 use Rattle.groups.specs.Numbers.{number, tab, all, leadingIn}
 use Rattle.groups.specs.Layout.{width, groupsOf, side, digitsAt, offset, sizeIn, size}
 use Rattle.groups.specs.Packed.{flipFirst, invert, digitsIn}
-use Rattle.groups.specs.Read.{inRange, groupAt, rangeAt, storedAt, unitOf, noGroups, groupsIn, readGroups}
+use Rattle.groups.specs.Read.{inRange, groupAt, rangeAt, storedAt, unitOf, groupsIn, readGroups}
 use Rattle.groups.specs.declared.Form.{Form}
 use Rattle.groups.specs.declared.Form.the-variants.{Plain}
 use Rattle.groups.proofs.Accept.{in-range}
-use Rattle.groups.proofs.Marks.{flip-front, length-in}
+use Rattle.groups.proofs.Marks.{length-in}
 use Rattle.groups.proofs.Sizes.{size-pos}
 use Rattle.groups.proofs.Tab.{tab-at, length-tab, filled}
-use Rattle.decimal.specs.Read.{negative, formOf, nought, decimalOf, without, finished, refused, accepted, fromGroups, readBin, readPacked}
+use Rattle.decimal.specs.Read.{negative, formOf, nought, decimalOf, without, finished, refused, accepted, fromGroups, readBin}
 use Rattle.decimal_laws.proofs.Bytes.{after}
 use Rattle.decimal_laws.proofs.Places.{range-front, stored-front}
 use Rattle.decimal_laws.proofs.RoundTrip.{packed-size}

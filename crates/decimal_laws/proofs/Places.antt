@@ -1,18 +1,17 @@
 -- What stands at each group's place in the digits of all groups, and that it is what was written there.
 -- Assumes nothing.
-use mathlib.Core.Path.{_≡_, refl, sym, ap, _∙_, subst}
+use mathlib.Core.Path.{_≡_, refl, sym, ap, _∙_}
 use mathlib.Core.Bool.{Bool, true, false, cond}
 use mathlib.Core.Logic.{⊎-elim}
 use mathlib.Core.List.{List, [], _∷_, _++_}
 use Prim.Native.Nat.{ℕ, zero, suc, _+_, _-_, _*_, _/_, _%_, _^_, _≤_, _<_, min}
-use native.Mathlib.Nat.{not-suc-le-zero, le-of-suc-le-suc, eq-or-lt-of-le, pow-zero, pow-succ', pow-suc, div-add-mod', div-lt-iff-lt-mul, lt-of-lt-of-le, mul-one, mul-assoc, mod-le, mod-lt, le-of-eq, le-refl}
+use native.Mathlib.Nat.{not-suc-le-zero, le-of-suc-le-suc, eq-or-lt-of-le, pow-zero, pow-suc, div-add-mod', div-lt-iff-lt-mul, lt-of-lt-of-le, mul-one, mul-assoc, mod-le, le-of-eq, le-refl}
 use native.Mathlib.Omega.{arith}
-use native.Mathlib.Numerals.{add-one}
-use lib.Dec.{T, leb, ltb, eqb, leb→le, lit<}
-use lib.ListN.{length, getD, take, drop, length-append, length-drop, List·getD-append}
+use lib.Dec.{leb, ltb, leb→le, lit<}
+use lib.ListN.{length, getD, take, drop, length-drop, List·getD-append}
 use lib.Seq.{take-append-le, drop-append-le, take-all, drop-at, getD-take}
 use borrow.Author.Tests.{ltb-true, ltb-false, eqb-true, lt-ltb}
-use Rattle.groups.specs.Numbers.{number, digits, tab, both, all, Below}
+use Rattle.groups.specs.Numbers.{number, digits, all}
 use Rattle.groups.specs.Layout.{width, groupsOf, side, baseOf, wideOf, digitsAt, offset, sizeIn}
 use Rattle.groups.specs.Read.{groupAt, rangeAt, storedAt, unitOf}
 use Rattle.groups.specs.Write.{groupDigits, digitsTo, wellAt, wellFormed, digitsOk}

@@ -1,23 +1,22 @@
 -- Reading then writing gives back the digit bytes read; writing then reading gives back a well formed decimal. Both with kept precision.
 -- Assumes nothing.
-use mathlib.Core.Path.{_≡_, refl, sym, ap, _∙_, subst}
+use mathlib.Core.Path.{_≡_, refl, sym, ap, _∙_}
 use mathlib.Core.Bool.{Bool, true, false, cond}
 use mathlib.Core.List.{List, [], _∷_, _++_}
-use Prim.Native.Nat.{ℕ, zero, suc, _+_, _-_, _*_, _/_, _%_, _^_, _≤_, _<_}
-use native.Mathlib.Nat.{le-of-suc-le-suc, le-trans, le-suc, le-refl, le-of-eq, mul-div-cancel, mul-mod-left}
+use Prim.Native.Nat.{ℕ, zero, suc, _+_, _-_, _/_, _≤_, _<_}
+use native.Mathlib.Nat.{le-trans, le-suc, le-refl, le-of-eq, mul-div-cancel, mul-mod-left}
 use native.Mathlib.Omega.{arith}
-use lib.Dec.{leb, ltb, eqb, lit<}
+use lib.Dec.{eqb, lit<}
 use lib.ListN.{length, getD, take, drop, length-drop, length-append}
-use lib.Seq.{take-add, take-at, length-take-le, ext-getD}
+use lib.Seq.{take-add}
 use borrow.Author.Tests.{le-leb, ne-eqb, eqb-true}
 use Rattle.refusal.specs.Told.{answer}
-use Rattle.groups.specs.Numbers.{number, digits, tab, both, all, Below}
+use Rattle.groups.specs.Numbers.{tab, all, Below}
 use Rattle.groups.specs.Layout.{baseOf, wideOf, digitsAt, offset, sizeIn, size}
-use Rattle.groups.specs.Packed.{bytesOf, digitsIn}
-use Rattle.groups.specs.Read.{inRange, groupAt, rangeAt, storedAt, unitOf, readGroups}
-use Rattle.groups.specs.Write.{digitsOk, groupDigits, digitsTo, wellAt, wellFormed, written, writeTold, writeLeaves}
+use Rattle.groups.specs.Packed.{digitsIn}
+use Rattle.groups.specs.Read.{groupAt, rangeAt, storedAt, unitOf, readGroups}
+use Rattle.groups.specs.Write.{digitsOk, groupDigits, digitsTo, wellAt, wellFormed, written}
 use Rattle.groups.specs.declared.Form.{Form}
-use Rattle.groups.specs.declared.Form.the-variants.{Plain, Inverted}
 use Rattle.groups.specs.declared.Groups.{Groups}
 use Rattle.groups.proofs.Accept.{in-range, well-digits}
 use Rattle.groups.proofs.Tab.{tab-at, filled, all-true, all-each}
@@ -28,7 +27,7 @@ use Rattle.groups.proofs.Opened.{opened, reads, below-drop, range-of}
 use Rattle.groups.proofs.Store.{length-to, length-written, to-below}
 use Rattle.groups.proofs.Room.{writes}
 use Rattle.groups.proofs.Sizes.{inverted-offset, size-pos}
-use Rattle.decimal.specs.Read.{negative, formOf, decimalOf, finished, refused, accepted, fromGroups, readBin, readPacked}
+use Rattle.decimal.specs.Read.{negative, formOf, decimalOf, finished, refused, accepted, fromGroups, readBin}
 use Rattle.decimal.specs.Write.{isWell, packed, writeBin, binLeaves}
 use Rattle.decimal.specs.declared.Decimal.{Decimal}
 use Rattle.decimal.specs.declared.Answer.{Answer}

@@ -1,15 +1,15 @@
 -- When reading groups succeeds and what it then gives; in particular digits below 10 are always read.
 -- Assumes nothing.
-use mathlib.Core.Path.{_≡_, refl, sym, ap, _∙_}
+use mathlib.Core.Path.{_≡_, refl}
 use mathlib.Core.Bool.{Bool, true, false, cond}
 use mathlib.Core.List.{List, [], _∷_}
 use Prim.Native.Nat.{ℕ, zero, suc, _+_, _-_, _^_, _≤_, _<_}
 use native.Mathlib.Nat.{pow-zero, pow-succ'}
 use native.Mathlib.Omega.{arith}
-use lib.Dec.{leb, lit<}
+use lib.Dec.{lit<}
 use lib.Arith.{digits-lt}
-use lib.ListN.{length, getD, take, drop, length-drop}
-use lib.Seq.{getD-drop, getD-take, length-take-le}
+use lib.ListN.{length, take, drop, length-drop}
+use lib.Seq.{getD-drop, length-take-le}
 use borrow.Author.Tests.{lt-ltb, le-leb, leb-true}
 use Rattle.refusal.specs.Told.{answer}
 use Rattle.groups.specs.Numbers.{number, tab, all, Below}
@@ -19,7 +19,6 @@ use Rattle.groups.specs.Read.{inRange, groupAt, rangeAt, storedAt, noGro
 use Rattle.groups.specs.Write.{sizeOf, wellFormed}
 use Rattle.groups.specs.declared.Form.{Form}
 use Rattle.groups.specs.declared.Form.the-variants.{Digits}
-use Rattle.groups.specs.declared.Groups.{Groups}
 use Rattle.groups.proofs.Accept.{well-digits}
 use Rattle.groups.proofs.Tab.{all-true}
 use Rattle.groups.proofs.Places.{within}

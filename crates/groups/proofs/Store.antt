@@ -1,12 +1,12 @@
 -- The laws of writing: one byte more of a group, from its last to its first; one group more; the first bit at the end.
 -- Assumes nothing.
-use mathlib.Core.Path.{_≡_, refl, sym, ap, _∙_, subst}
-use mathlib.Core.List.{List, [], _∷_, _++_, map, map-append, append-assoc}
-use Prim.Native.Nat.{ℕ, zero, suc, _+_, _-_, _*_, _/_, _%_, _≤_, _<_}
-use native.Mathlib.Nat.{le-of-suc-le-suc, not-suc-le-zero, add-suc, le-refl, le-of-lt, sub-zero, zero-sub, suc-sub-suc}
+use mathlib.Core.Path.{_≡_, refl, _∙_}
+use mathlib.Core.List.{List, _∷_, _++_, map, map-append, append-assoc}
+use Prim.Native.Nat.{ℕ, zero, suc, _+_, _/_, _%_, _≤_, _<_}
+use native.Mathlib.Nat.{add-suc, le-refl, le-of-lt}
 use native.Mathlib.Numerals.{add-one}
 use native.Mathlib.Omega.{arith}
-use lib.ListN.{replicate, length, getD, take, drop, set, length-append, length-map, length-set, take-append-drop}
+use lib.ListN.{length, getD, take, drop, set, length-append, length-map}
 use lib.Seq.{take-set-le, drop-cons, drop-set-lt, getD-set-same, lt-length-set, take-at, drop-at, drop-drop, getD-at, set-at, take-suc, length-take-le}
 use Rattle.groups.specs.Layout.{baseOf, wideOf, digitsAt, offset, sizeIn}
 use Rattle.groups.specs.declared.Form.{Form}

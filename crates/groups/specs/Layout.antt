@@ -4,7 +4,7 @@
 -- no bytes and reads as 0, so that every decimal has nine. 1234567890.1234 has the groups 1, 234567890 and 1234.
 -- Assumes nothing.
 use Prim.Native.Nat.{ℕ, zero, suc, _+_, _-_, _*_, _/_, min}
-use mathlib.Core.Bool.{Bool, true, false, cond}
+use mathlib.Core.Bool.{cond}
 use lib.Dec.{ltb}
 use Rattle.groups.specs.declared.Form.{Form}
 use Rattle.groups.specs.declared.Form.the-variants.{Plain, Inverted, Digits}

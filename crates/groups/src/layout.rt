@@ -2,7 +2,6 @@
 use super::Counted;
 use super::Form;
 ghost use mathlib.Core.Path.{_≡_};
-ghost use mathlib.Core.Bool.{true};
 ghost use Prim.Native.Nat.{_+_, _-_, _^_, _<_, _≤_};
 ghost use Rattle.groups.specs.Layout.{baseOf, wideOf, width, side, digitsAt, sizeIn, size};
 ghost use Rattle.groups.specs.Read.{inRange, unitOf};

@@ -13,7 +13,7 @@ ghost use mathlib.Core.List.{_++_, map};
 ghost use Prim.Native.Nat.{_+_, _<_, _≤_};
 ghost use lib.ListN.{length, take, drop};
 ghost use Rattle.groups.specs.Numbers.{digits};
-ghost use Rattle.groups.specs.Layout.{wideOf, digitsAt, sizeIn, offset};
+ghost use Rattle.groups.specs.Layout.{wideOf, digitsAt, offset};
 ghost use Rattle.groups.specs.Packed.{flipFirst, invert, bytesOf};
 ghost use Rattle.groups.specs.Write.{told, groupDigits, digitsTo, writeTold, writeLeaves};
 

@@ -1,16 +1,15 @@
 -- What a numeral that was read holds: digits below 10, as many as the limits allow. Its text consists of digits and a point, by the definition.
 -- Assumes nothing.
-use mathlib.Core.Path.{_≡_, refl, sym, subst}
+use mathlib.Core.Path.{_≡_, refl}
 use mathlib.Core.Bool.{Bool, true, false, cond}
 use mathlib.Core.List.{List, [], _∷_, _++_, map, map-append}
 use Prim.Native.Nat.{ℕ, zero, suc, _+_, _-_, _≤_, _<_}
-use native.Mathlib.Nat.{le-refl}
 use native.Mathlib.Omega.{arith}
-use lib.Dec.{T, leb, eqb, lit<}
+use lib.Dec.{leb, eqb, lit<}
 use lib.ListN.{length, getD, take, drop, replicate}
 use lib.Seq.{take-length}
 use borrow.Author.Tests.{leb-true, eqb-true}
-use Rattle.groups.specs.Numbers.{both, Below}
+use Rattle.groups.specs.Numbers.{Below}
 use Rattle.groups.proofs.Accept.{both-true}
 use Rattle.groups.proofs.Radix.{below-append}
 use Rattle.numeral.specs.Read.{isDigit, run, pointed, wholePart, fractionPart, isText, fewDigits, digitOf, digitsIn, padded, numeralOf, noNumeral, minus, strip, unsigned, readUnsigned, readText}

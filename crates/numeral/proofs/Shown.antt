@@ -5,11 +5,10 @@ use mathlib.Core.Bool.{Bool, true, false, cond}
 use mathlib.Core.List.{List, [], _∷_, _++_, map, append-assoc}
 use Prim.Native.Nat.{ℕ, zero, suc, _+_, _-_, _%_, _≤_, _<_, zero-le, suc-le-suc}
 use native.Mathlib.Nat.{le-of-suc-le-suc, not-suc-le-zero}
-use native.Mathlib.Numerals.{add-one}
 use native.Mathlib.Omega.{arith}
 use lib.Dec.{eqb, leb, ltb}
 use lib.ListN.{length, getD, take, drop, length-append, length-drop, length-map, take-append-drop}
-use lib.Seq.{take-append-le, drop-append-le, drop-at, drop-cons, length-take-le, take-add, take-take}
+use lib.Seq.{take-append-le, drop-append-le, drop-at, length-take-le, take-add, take-take}
 use borrow.Author.Tests.{eq-eqb, ne-eqb, le-leb, lt-ltb, leb-true, ltb-true}
 use Rattle.groups.specs.Numbers.{both, all, leadingIn}
 use Rattle.groups.specs.Layout.{side, groupsOf}

@@ -1,10 +1,9 @@
 -- The records are tested first; past that the order is that of the values.
 -- Assumes nothing.
 use mathlib.Core.Path.{_≡_, sym, _∙_, ap}
-use mathlib.Core.Bool.{Bool, true, false, cond}
+use mathlib.Core.Bool.{true}
 use borrow.Author.Needs.{needs}
 use borrow.Author.Tests.{not-true, not-false}
-use Rattle.groups.specs.Numbers.{both}
 use Rattle.decimal.specs.Write.{isWell}
 use Rattle.decimal.specs.Value.{told, compareTold}
 use Rattle.decimal.proofs.Decimal.compare.Statement.{statement}

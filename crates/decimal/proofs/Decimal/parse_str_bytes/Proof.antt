@@ -2,7 +2,6 @@
 -- Assumes nothing.
 use denote.Ref.{now}
 use mathlib.Core.Path.{_≡_, sym, _∙_, ap}
-use Rattle.numeral.specs.Read.{readText}
 use Rattle.numeral.specs.declared.Numeral.{Numeral}
 use Rattle.numeral.proofs.Limits.{Within, read-within}
 use Rattle.decimal.specs.Read.{refused, accepted}

@@ -1,7 +1,7 @@
 -- The digits are written to an array that always has room, so only an ill formed record is refused there; then they are printed.
 -- Assumes nothing.
 use denote.Ref.{now}
-use mathlib.Core.Path.{_≡_, sym, _∙_, ap}
+use mathlib.Core.Path.{sym, _∙_, ap}
 use Rattle.groups.specs.Write.{told}
 use Rattle.decimal.proofs.Texts.{refuses, wrote, prints}
 use borrow.Author.Needs.{needs}

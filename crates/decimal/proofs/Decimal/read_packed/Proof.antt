@@ -1,9 +1,7 @@
 -- Two bytes go before the digits; without them the header is cut.
 -- Assumes nothing.
 use denote.Ref.{now}
-use Prim.Native.Nat.{ℕ}
 use mathlib.Core.Path.{sym, _∙_}
-use Rattle.decimal.specs.Read.{readBin}
 use Rattle.decimal.proofs.Cases.{no-header, headed, rest}
 use borrow.Author.Needs.{needs}
 use Rattle.decimal.proofs.Decimal.read_packed.Statement.{statement}

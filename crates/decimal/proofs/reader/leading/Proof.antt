@@ -1,11 +1,11 @@
 -- The groups passed are all 0, and the first that is not ends the count.
 -- Assumes nothing.
 use borrow.Author.Needs.{needs}
-use Prim.Native.Nat.{ℕ, _≤_, _+_, _-_}
-use mathlib.Core.Path.{_≡_, refl}
+use Prim.Native.Nat.{_≤_, _+_, _-_}
+use mathlib.Core.Path.{_≡_}
 use native.Mathlib.Nat.{sub-zero, zero-add}
 use native.Mathlib.Omega.{arith}
-use lib.ListN.{length, getD, drop}
+use lib.ListN.{length, drop}
 use Rattle.groups.specs.Numbers.{leadingIn}
 use Rattle.groups.proofs.Trim.{leading-stop, leading-more}
 use Rattle.decimal.proofs.reader.leading.Statement.{statement}

@@ -1,6 +1,6 @@
 -- The sum over the groups is four for each whole group and the rest's width, on either side: one test over all sizes.
 -- Assumes nothing.
-use Prim.Native.Nat.{ℕ, _+_, _-_, _*_, _/_, _%_}
+use Prim.Native.Nat.{ℕ, _+_, _*_, _/_, _%_}
 use mathlib.Core.Path.{_∙_, ap}
 use Rattle.groups.specs.Layout.{width}
 use Rattle.groups.proofs.Sizes.{closed-size}

@@ -1,7 +1,6 @@
 -- In the packed forms the size is that of the groups, and as digits a byte for each.
 -- Assumes nothing.
 use mathlib.Core.Path.{sym, _∙_}
-use native.Mathlib.Omega.{arith}
 use borrow.Author.Needs.{needs}
 use Rattle.groups.proofs.Sizes.{digits-size, inverted-offset}
 use Rattle.groups.proofs.layout.size_in.Statement.{statement}

@@ -1,7 +1,7 @@
 -- The number so far is that of the digits passed, and a bound on it, with any bytes for digits, keeps each step within 64 bits.
 -- Assumes nothing.
 use denote.Ref.{now}
-use Prim.Native.Nat.{ℕ, _≤_, _<_, _+_, _*_, _-_, _^_}
+use Prim.Native.Nat.{ℕ, _≤_, _+_, _*_, _-_, _^_}
 use mathlib.Core.Path.{_≡_, refl, sym, _∙_, ap}
 use native.Mathlib.Nat.{pow-zero}
 use native.Mathlib.Omega.{arith}

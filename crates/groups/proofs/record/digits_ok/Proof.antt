@@ -3,7 +3,7 @@
 use Prim.Native.Nat.{_≤_, _+_}
 use mathlib.Core.Path.{sym}
 use native.Mathlib.Omega.{arith}
-use borrow.Author.Tests.{le-leb, lt-leb}
+use borrow.Author.Tests.{le-leb}
 use Rattle.groups.specs.Write.{digitsOk}
 use Rattle.groups.proofs.Accept.{not-ok, both-unit}
 use borrow.Author.Needs.{needs}

@@ -1,7 +1,7 @@
 -- The bytes passed are inverted, and the others are as they were.
 -- Assumes nothing.
 use denote.Ref.{now}
-use Prim.Native.Nat.{ℕ, _≤_, _-_}
+use Prim.Native.Nat.{_≤_, _-_}
 use mathlib.Core.Path.{_≡_, refl}
 use mathlib.Core.List.{_++_, map}
 use native.Mathlib.Omega.{arith}

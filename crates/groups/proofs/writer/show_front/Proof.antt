@@ -1,9 +1,9 @@
 -- What each form makes of the digits in front leaves the rest as it was.
 -- Assumes nothing.
 use denote.Ref.{now}
-use mathlib.Core.Path.{_≡_, sym, _∙_, ap}
+use mathlib.Core.Path.{sym, _∙_, ap}
 use mathlib.Core.List.{map}
-use lib.ListN.{length, take, drop, take-append-drop, length-map}
+use lib.ListN.{take, drop, take-append-drop, length-map}
 use lib.Seq.{length-take-le}
 use Rattle.groups.specs.Packed.{flipFirst, invert, bytesOf}
 use Rattle.groups.proofs.Marks.{flip-part, flip-front}

@@ -1,17 +1,14 @@
 -- The refusals in their order change nothing; past them the digits are written in front and then shown in their form.
 -- Assumes nothing.
 use denote.Ref.{now}
-use Prim.Native.Nat.{ℕ, _≤_, _+_}
-use mathlib.Core.Path.{_≡_, refl, sym, _∙_, ap}
-use mathlib.Core.Bool.{true, false}
-use mathlib.Core.List.{List, [], _∷_, _++_}
+use Prim.Native.Nat.{_≤_}
+use mathlib.Core.Path.{_≡_, sym, _∙_}
+use mathlib.Core.Bool.{true}
 use native.Mathlib.Omega.{arith}
-use lib.ListN.{length, take, drop}
+use lib.ListN.{length, drop}
 use lib.Seq.{take-at, drop-at}
 use borrow.Author.Tests.{not-true, not-false}
-use Rattle.refusal.specs.Told.{answer}
 use Rattle.groups.specs.Layout.{sizeIn}
-use Rattle.groups.specs.Packed.{bytesOf}
 use Rattle.groups.specs.Write.{wellFormed, digitsTo, written, writeTold, writeLeaves}
 use Rattle.groups.proofs.Accept.{well-digits}
 use Rattle.groups.proofs.Sizes.{size-pos}
