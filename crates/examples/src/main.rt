@@ -143,41 +143,77 @@ fn written(a: &[u8], room: &mut [u8]) {
     say(b"\n");
 }
 
-fn main() {
+fn packed_examples() {
     packed(&[0x04, 0x02, 0x73, 0xDD], true);
     packed(&[0x04, 0x02, 0x8C, 0x22], true);
     packed(&[0x04], true);
+}
+
+fn bin_examples() {
     bin(&[0xE3], 2, 0, true);
     bin(&[0xE4], 2, 0, true);
     bin(&[0x7F], 2, 0, true);
     bin(&[0x7F], 2, 0, false);
+}
+
+fn range_examples() {
     bin(&[], 0, 0, true);
     bin(&[0x80], 1, 2, true);
     bin(&[0x80], 3, 0, true);
+}
+
+fn text_examples() {
     text(b"007", b"007");
     text(b".5", b".5");
     text(b".", b".");
+}
+
+fn long_text_examples() {
     let zeros = [48u8; 66];
     text(b"66 zeros", &zeros);
     let mut minus = [48u8; 67];
     minus[0] = 45;
     text(b"- and 66 zeros", &minus);
+}
+
+fn more_text_examples() {
     text(b"1 with a space", b"1 ");
     text(b"00-5", b"00-5");
     text(b"5.", b"5.");
     text(b"-0.00", b"-0.00");
     text(b"0123456789", b"0123456789");
+}
+
+fn order_examples() {
     order(b"9", b"100");
     order(b"1", b"1.0");
     order(b"1", b".1");
     order(b"-0", b"0");
     order(b"-9", b"-100");
+}
+
+fn width_examples() {
     say(b"bytes of 0 to 9 digits:");
     widths();
     say(b"\n");
+}
+
+fn written_examples() {
     let mut room = [0u8; 8];
     written(b"1234567890.1234", &mut room);
     written(b"-1234567890.1234", &mut room);
     let mut less = [0u8; 6];
     written(b"1234567890.1234", &mut less);
+}
+
+fn main() {
+    packed_examples();
+    bin_examples();
+    range_examples();
+    text_examples();
+    long_text_examples();
+    more_text_examples();
+    order_examples();
+    width_examples();
+    written_examples();
 }
