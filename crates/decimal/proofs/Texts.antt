@@ -83,6 +83,6 @@ module _ (d : Decimal) where
       let m : d .intg + d .frac ≤ length (D ++ R) = (let l = length-append D R in omega arith) in
       let b : (k : ℕ) → k < d .intg + d .frac → getD (D ++ R) k 0 < 10 =
       λ k l. rw (List·getD-append D R 0 k (rw n l)) (to-below Digits (d .intg) (d .frac) (d .groups) 9 k) in
-      let a : areDigits (d .intg) (d .frac) (D ++ R) ≡ true = all-digits (d .intg) (d .frac) (D ++ R) (h .1 .0) m b in
+      let a : areDigits (d .intg) (d .frac) (D ++ R) ≡ true = all-digits (d .intg) (d .frac) (D ++ R) (record { some = h .0; most = h .1 .0; places = h .1 .1; there = m; low = b }) in
       let t = text-front (d .sign) (d .intg) (d .frac) D R (le-of-eq (sym n)) in
       rw (q, a, w, t) (refl, refl)

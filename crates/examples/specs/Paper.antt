@@ -7,7 +7,9 @@ use mathlib.Core.List.{List, [], _∷_}
 use lib.Dec.{eqb}
 use Rattle.refusal.specs.Told.{Told, answer, refusal}
 use Rattle.decimal.specs.Read.{readBin, readPacked}
+use Rattle.decimal.specs.Write.{isWell}
 use Rattle.decimal.specs.Text.{printed}
+use Rattle.decimal.specs.declared.Decimal.{Decimal}
 use Rattle.decimal.specs.declared.Answer.{Answer}
 
 pub data Row : Type 0 where
@@ -16,8 +18,12 @@ pub data Row : Type 0 where
   -- digit bytes of a precision and a scale, with the precision kept or not
   digits : List ℕ → ℕ → ℕ → Bool → Row
 
+-- what a decimal prints, or 26; or what reading it refused
+unfoldable pub prints : Decimal → Told
+prints d = cond (isWell d) (answer (printed d)) (refusal 26)
+
 unfoldable pub printedOr : Answer → Told
-printedOr a = cond (eqb (a .refusal) 0) (answer (printed (a .decimal))) (refusal (a .refusal))
+printedOr a = cond (eqb (a .refusal) 0) (prints (a .decimal)) (refusal (a .refusal))
 
 unfoldable pub asked : Row → Told
 asked (packed bs keep) = printedOr (readPacked bs keep)

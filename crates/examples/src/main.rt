@@ -86,16 +86,8 @@ fn text(name: &[u8], text: &[u8]) {
     say_answer(Decimal::parse_str_bytes(text));
 }
 
-// The order of two texts' values.
-fn order(a: &[u8], b: &[u8]) {
-    let x = Decimal::parse_str_bytes(a);
-    let y = Decimal::parse_str_bytes(b);
-    say(a);
-    say(b" and ");
-    say(b);
-    let d = x.decimal;
-    let e = y.decimal;
-    match d.compare(e) {
+fn say_order(c: Compared) {
+    match c {
         Compared::Less => say(b": less\n"),
         Compared::Equal => say(b": equal\n"),
         Compared::Greater => say(b": greater\n"),
@@ -105,6 +97,30 @@ fn order(a: &[u8], b: &[u8]) {
             say(b"\n");
         }
     }
+}
+
+// The order of two texts' values.
+fn order(a: &[u8], b: &[u8]) {
+    let x = Decimal::parse_str_bytes(a);
+    let y = Decimal::parse_str_bytes(b);
+    say(a);
+    say(b" and ");
+    say(b);
+    let d = x.decimal;
+    let e = y.decimal;
+    say_order(d.compare(e));
+}
+
+// The order of the negative zero in these bytes and a text's value.
+fn order_zero(bytes: &[u8], precision: usize, b: &[u8]) {
+    let x = Decimal::read_bin(bytes, precision, 0, true);
+    let y = Decimal::parse_str_bytes(b);
+    let d = x.decimal;
+    let e = y.decimal;
+    say_decimal(d);
+    say(b" and ");
+    say(b);
+    say_order(d.compare(e));
 }
 
 fn say_count(c: Counted) {
@@ -188,7 +204,7 @@ fn order_examples() {
     order(b"9", b"100");
     order(b"1", b"1.0");
     order(b"1", b".1");
-    order(b"-0", b"0");
+    order_zero(&[0x7F], 2, b"0");
     order(b"-9", b"-100");
 }
 

@@ -15,7 +15,7 @@ pub enum Form {
     Plain,
     // Packed, negative.
     Inverted,
-    // A decimal digit to a byte, as a number from 0 to 9.
+    // A decimal digit to a byte, as a number. A byte above 9 is not refused as such: the two bytes 0 and 12 are the number 12, as 1 and 2 are.
     Digits,
 }
 

@@ -12,7 +12,8 @@ use lib.Seq.{take-append-le, drop-append-le, drop-at, length-take-le, take-add, 
 use borrow.Author.Tests.{eq-eqb, ne-eqb, le-leb, lt-ltb, leb-true, ltb-true}
 use Rattle.groups.specs.Numbers.{both, all, leadingIn}
 use Rattle.groups.specs.Layout.{side, groupsOf}
-use Rattle.groups.proofs.Accept.{both-true, is-false}
+use Rattle.groups.proofs.Accept.{both-true, is-false, digits-ok}
+use Rattle.groups.specs.Write.{digitsOk}
 use Rattle.groups.proofs.Store.{join}
 use Rattle.groups.proofs.Tab.{all-true, all-each}
 use Rattle.numeral.specs.Print.{show, unpadded, firstDigits, wholeDigits, fractionText, textOf, areDigits}
@@ -109,21 +110,30 @@ three S W F out {out₁} {out₂} {out₃} {a} {b} {r} ea e₁ eb e₂ er e₃ =
     (er ∙ sym (simp length-append (omega arith)), q₃ ∙ simp append-assoc)
 
 -- ---- what the test of the digits tells, and what tells it
-pub are-digits : (i f : ℕ) (ds : List ℕ) → areDigits i f ds ≡ true → (i + f ≤ 65) × ((i + f ≤ length ds) × DigitsTo (i + f) ds)
+pub record Digited (i f : ℕ) (ds : List ℕ) : Type 0 where
+  pub some : 1 ≤ i + f
+  pub most : i + f ≤ 65
+  pub places : f ≤ 30
+  pub there : i + f ≤ length ds
+  pub low : DigitsTo (i + f) ds
+
+pub are-digits : (i f : ℕ) (ds : List ℕ) → areDigits i f ds ≡ true → Digited i f ds
 unfolding areDigits
 are-digits i f ds e =
     let p : ℕ → Bool = λ k. ltb (getD ds k 0) 10 in
-    let u = both-true (leb (i + f) 65) (both (leb (i + f) (length ds)) (all (i + f) p)) e in
+    let u = both-true (digitsOk i f) (both (leb (i + f) (length ds)) (all (i + f) p)) e in
     let v = both-true (leb (i + f) (length ds)) (all (i + f) p) (u .1) in
-    (leb-true _ _ (u .0), (leb-true _ _ (v .0), λ k h. ltb-true _ _ (all-each p (i + f) (v .1) k h)))
+    let n = digits-ok i f (u .0) in
+    record { some = n .0; most = n .1 .0; places = n .1 .1; there = leb-true _ _ (v .0); low = λ k h. ltb-true _ _ (all-each p (i + f) (v .1) k h) }
 
-pub not-digits : (i f : ℕ) (ds : List ℕ) → ((i + f ≤ 65) × ((i + f ≤ length ds) × DigitsTo (i + f) ds) → ⊥) → areDigits i f ds ≡ false
+pub not-digits : (i f : ℕ) (ds : List ℕ) → (Digited i f ds → ⊥) → areDigits i f ds ≡ false
 not-digits i f ds h = is-false (areDigits i f ds) (λ e. h (are-digits i f ds e))
 
-pub all-digits : (i f : ℕ) (ds : List ℕ) → i + f ≤ 65 → i + f ≤ length ds → DigitsTo (i + f) ds → areDigits i f ds ≡ true
-unfolding areDigits
-all-digits i f ds h l d =
-    simp (le-leb _ _ h, le-leb _ _ l) (all-true (λ k. ltb (getD ds k 0) 10) (i + f) (λ k m. lt-ltb _ _ (d k m)))
+pub all-digits : (i f : ℕ) (ds : List ℕ) → Digited i f ds → areDigits i f ds ≡ true
+unfolding areDigits digitsOk
+all-digits i f ds d =
+    simp (le-leb _ _ (d .some), le-leb _ _ (d .most), le-leb _ _ (d .places), le-leb _ _ (d .there))
+    (all-true (λ k. ltb (getD ds k 0) 10) (i + f) (λ k m. lt-ltb _ _ (d .low k m)))
 
 -- ---- what follows the digits does not matter
 first-le : (i : ℕ) → firstDigits i ≤ i

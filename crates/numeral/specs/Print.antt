@@ -8,7 +8,7 @@ use lib.ListN.{length, getD, take, drop}
 use Rattle.refusal.specs.Told.{Told, refusal}
 use Rattle.groups.specs.Numbers.{both, all}
 use Rattle.groups.specs.Layout.{side, groupsOf}
-use Rattle.groups.specs.Write.{roomTold, roomLeaves}
+use Rattle.groups.specs.Write.{digitsOk, roomTold, roomLeaves}
 
 -- the character of a digit
 abbrev pub show : ℕ → ℕ
@@ -39,9 +39,9 @@ signText false = []
 abbrev pub textOf : Bool → ℕ → ℕ → List ℕ → List ℕ
 textOf neg i f ds = signText neg ++ (map show (wholeDigits i ds) ++ fractionText i f ds)
 
--- there are i + f digits, at most 65, each below 10
+-- what 26 is not: 1 to 65 digits, at most 30 of them after the point, which are all there and below 10
 unfoldable pub areDigits : ℕ → ℕ → List ℕ → Bool
-areDigits i f ds = both (leb (i + f) 65) (both (leb (i + f) (length ds)) (all (i + f) (λ k. ltb (getD ds k 0) 10)))
+areDigits i f ds = both (digitsOk i f) (both (leb (i + f) (length ds)) (all (i + f) (λ k. ltb (getD ds k 0) 10)))
 
 -- the answer, and the output afterwards: 26 before 25
 unfoldable pub printTold : Bool → ℕ → ℕ → List ℕ → List ℕ → Told

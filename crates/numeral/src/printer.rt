@@ -123,10 +123,16 @@ fn digits_ok(intg: usize, frac: usize, digits: &[u8]) -> bool
     if 65 < intg {
         return false;
     }
-    if 65 - intg < frac {
+    if 30 < frac {
         return false;
     }
     let n = intg + frac;
+    if 65 < n {
+        return false;
+    }
+    if n == 0 {
+        return false;
+    }
     if digits.len() < n {
         return false;
     }

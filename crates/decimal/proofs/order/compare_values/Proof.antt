@@ -1,5 +1,5 @@
 -- Signs decide where they differ; of two negative values the larger magnitude is the less.
--- Assumes nothing.
+-- Assumes what the contract requires, and nothing else.
 use Prim.Native.Nat.{ℕ}
 use mathlib.Core.Path.{_≡_, sym, _∙_}
 use mathlib.Core.Bool.{not}

@@ -1,5 +1,5 @@
 -- The places passed are equal, and the first that differs decides, since each group is below the base.
--- Assumes nothing.
+-- Assumes what the contract requires, and nothing else.
 use borrow.Author.Needs.{needs}
 use borrow.Author.Count.{below-none, below-more}
 use Prim.Native.Nat.{ℕ, _≤_, _<_, _-_}

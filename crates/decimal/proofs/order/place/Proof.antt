@@ -1,5 +1,5 @@
 -- Among seventeen places the groups stand so that the points meet, with 0 before and after them.
--- Assumes nothing.
+-- Assumes what the contract requires, and nothing else.
 use mathlib.Core.Path.{sym, _∙_}
 use borrow.Author.Tests.{lt-ltb, le-ltb}
 use Rattle.decimal.proofs.Lex.{placed-at}

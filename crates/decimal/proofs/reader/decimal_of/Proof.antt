@@ -1,5 +1,5 @@
 -- No digit left is tested first.
--- Assumes nothing.
+-- Assumes what the contract requires, and nothing else.
 use mathlib.Core.Path.{sym}
 use borrow.Author.Tests.{eq-eqb, ne-eqb}
 use Rattle.decimal.specs.Read.{decimalOf}

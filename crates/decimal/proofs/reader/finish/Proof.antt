@@ -1,5 +1,5 @@
 -- With kept precision nothing is dropped; else as many integral groups as lead with 0.
--- Assumes nothing.
+-- Assumes what the contract requires, and nothing else.
 use Prim.Native.Nat.{_+_, _-_, _*_, _/_}
 use mathlib.Core.Path.{sym, _∙_, ap}
 use borrow.Author.Tests.{eq-eqb, ne-eqb}

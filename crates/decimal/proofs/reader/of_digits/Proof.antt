@@ -1,5 +1,5 @@
 -- Digits below 10 are never refused, so the groups are those of the digits.
--- Assumes nothing.
+-- Assumes what the contract requires, and nothing else.
 use mathlib.Core.Path.{_≡_, _∙_, ap}
 use native.Mathlib.Omega.{arith}
 use lib.ListN.{length}

@@ -1,5 +1,5 @@
 -- Each place passed holds the group z places on.
--- Assumes nothing.
+-- Assumes what the contract requires, and nothing else.
 use borrow.Author.Needs.{needs}
 use Prim.Native.Nat.{ℕ, _≤_, _<_, _-_, _+_}
 use mathlib.Core.Path.{_≡_, refl}

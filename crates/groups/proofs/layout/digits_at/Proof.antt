@@ -1,5 +1,5 @@
 -- A place before the integral groups' count is one of theirs, counted from the point, and any other one of the fraction.
--- Assumes nothing.
+-- Assumes what the contract requires, and nothing else.
 use mathlib.Core.Path.{_∙_, sym}
 use borrow.Author.Tests.{lt-ltb, le-ltb}
 use Rattle.groups.specs.Layout.{digitsAt, groupsOf}

@@ -1,5 +1,5 @@
 -- The sum over the groups is four for each whole group and the rest's width, on either side: one test over all sizes.
--- Assumes nothing.
+-- Assumes what the contract requires, and nothing else.
 use Prim.Native.Nat.{ℕ, _+_, _*_, _/_, _%_}
 use mathlib.Core.Path.{_∙_, ap}
 use Rattle.groups.specs.Layout.{width}

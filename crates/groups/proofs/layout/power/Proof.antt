@@ -1,5 +1,5 @@
 -- The table's rule is a test at each of its ten entries, which antt computes.
--- Assumes nothing.
+-- Assumes what the contract requires, and nothing else.
 use mathlib.Core.List.{List, [], _∷_}
 use Prim.Native.Nat.{ℕ, _^_}
 use lib.Dec.{eqb, eqb→eq, leb, leb→le}

@@ -1,5 +1,5 @@
 -- In the packed forms the size is that of the groups, and as digits a byte for each.
--- Assumes nothing.
+-- Assumes what the contract requires, and nothing else.
 use mathlib.Core.Path.{sym, _∙_}
 use borrow.Author.Needs.{needs}
 use Rattle.groups.proofs.Sizes.{digits-size, inverted-offset}

@@ -1,5 +1,5 @@
 -- Integral groups are stored as they are, groups of the fraction as if they had nine digits.
--- Assumes nothing.
+-- Assumes what the contract requires, and nothing else.
 use mathlib.Core.Path.{sym, _∙_}
 use borrow.Author.Tests.{lt-ltb, le-ltb}
 use Rattle.groups.specs.Layout.{groupsOf}

@@ -1,5 +1,5 @@
 -- Each form's width is its definition's: the table's in the packed forms, the digits themselves in the other.
--- Assumes nothing.
+-- Assumes what the contract requires, and nothing else.
 use mathlib.Core.Path.{sym, _∙_}
 use borrow.Author.Needs.{needs}
 use Rattle.groups.proofs.layout.wide_of.Statement.{statement}

@@ -1,5 +1,5 @@
 -- Each form's digit is what its definition makes of the byte.
--- Assumes nothing.
+-- Assumes what the contract requires, and nothing else.
 use denote.Ref.{now}
 use Prim.Native.Nat.{ℕ, _-_}
 use mathlib.Core.Path.{sym, _∙_, ap}

@@ -1,5 +1,5 @@
 -- The number so far is that of the digits passed, and a bound on it, with any bytes for digits, keeps each step within 64 bits.
--- Assumes nothing.
+-- Assumes what the contract requires, and nothing else.
 use denote.Ref.{now}
 use Prim.Native.Nat.{ℕ, _≤_, _+_, _*_, _-_, _^_}
 use mathlib.Core.Path.{_≡_, refl, sym, _∙_, ap}

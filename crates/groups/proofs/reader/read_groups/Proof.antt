@@ -1,5 +1,5 @@
 -- The groups passed are in range and stored at their places; the first that is not decides.
--- Assumes nothing.
+-- Assumes what the contract requires, and nothing else.
 use denote.Ref.{now}
 use Prim.Native.Nat.{ℕ, _≤_, _<_, _-_}
 use mathlib.Core.Path.{_≡_, refl, sym, _∙_, ap}

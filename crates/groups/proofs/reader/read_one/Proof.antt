@@ -1,5 +1,5 @@
 -- The group's number, its range and its unit are the definition's, at the digits, width and base that the callees ensure.
--- Assumes nothing.
+-- Assumes what the contract requires, and nothing else.
 use denote.Ref.{now}
 use Prim.Native.Nat.{ℕ, _≤_, _+_, _^_}
 use mathlib.Core.Path.{_≡_, _∙_, ap}

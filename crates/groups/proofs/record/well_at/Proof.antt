@@ -1,5 +1,5 @@
 -- The two tests of the definition, on the digits and the unit that the callees ensure.
--- Assumes nothing.
+-- Assumes what the contract requires, and nothing else.
 use borrow.Author.Tests.{eq-eqb, ne-eqb}
 use Rattle.groups.specs.Write.{wellAt}
 use borrow.Author.Needs.{needs}

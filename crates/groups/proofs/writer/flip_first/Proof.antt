@@ -1,5 +1,5 @@
 -- One store, to the first byte.
--- Assumes nothing.
+-- Assumes what the contract requires, and nothing else.
 use denote.Ref.{now}
 use mathlib.Core.Path.{_∙_, ap}
 use lib.ListN.{set}

@@ -1,3 +1,5 @@
+-- The digits come lowest first: what is left to write, put before those already written, is the whole.
+-- Assumes what the contract requires, and nothing else.
 use borrow.Author.Needs.{needs}
 use Prim.Native.Nat.{suc, _≤_, _+_, _-_}
 use mathlib.Core.Path.{_≡_, refl, sym, _∙_}

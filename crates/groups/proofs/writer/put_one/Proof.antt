@@ -1,5 +1,5 @@
 -- The group's digits in its form are what its definition says, at the digits, width, unit and base that the callees ensure.
--- Assumes nothing.
+-- Assumes what the contract requires, and nothing else.
 use denote.Ref.{now}
 use Prim.Native.Nat.{ℕ, _+_}
 use mathlib.Core.Path.{_≡_, _∙_, ap}

@@ -1,5 +1,5 @@
 -- What each form makes of the digits in front leaves the rest as it was.
--- Assumes nothing.
+-- Assumes what the contract requires, and nothing else.
 use denote.Ref.{now}
 use mathlib.Core.Path.{sym, _∙_, ap}
 use mathlib.Core.List.{map}

@@ -28,14 +28,20 @@ add-n c = search needs
 returns-3 : tie.Need-returns-3 Inv-loop μ-loop
 returns-3 c = sym (not-digits _ _ _ (λ h. omega arith))
 
+returns-4 : tie.Need-returns-4 Inv-loop μ-loop
+returns-4 c = sym (not-digits _ _ _ (λ h. omega arith))
+
+returns-5 : tie.Need-returns-5 Inv-loop μ-loop
+returns-5 c = sym (not-digits _ _ _ (λ h. omega arith))
+
 loop-holds : tie.Need-loop-holds Inv-loop μ-loop
 loop-holds c = (search needs, below-none _)
 
-shared-slice-read-if4 : tie.Need-shared-slice-read-if4 Inv-loop μ-loop
-shared-slice-read-if4 c = omega arith
+shared-slice-read-if6 : tie.Need-shared-slice-read-if6 Inv-loop μ-loop
+shared-slice-read-if6 c = omega arith
 
-returns-4 : tie.Need-returns-4 Inv-loop μ-loop
-returns-4 c = sym (not-digits _ _ _ (λ h. let q = h .1 .1 (c .before .before .before .loop .k) (omega arith) in omega arith))
+returns-6 : tie.Need-returns-6 Inv-loop μ-loop
+returns-6 c = sym (not-digits _ _ _ (λ h. let q = h .low (c .before .before .before .loop .k) (omega arith) in omega arith))
 
 add-k : tie.Need-add-k Inv-loop μ-loop
 add-k c = omega arith
@@ -48,12 +54,12 @@ loop-again c =
     let l = c .before .before .before .loop in
     (search needs, below-more _ (l .k) (l .inv .1) (search needs))
 
-returns-5 : tie.Need-returns-5 Inv-loop μ-loop
-returns-5 c =
+returns-7 : tie.Need-returns-7 Inv-loop μ-loop
+returns-7 c =
     let l = c .before .loop in
-    let a = c .before .before .before .before .before .args in
+    let a = c .before .before .before .before .before .before .before .args in
     let e : l .k ≡ a .intg + a .frac = omega arith in
-    sym (all-digits _ _ _ (omega arith) (omega arith) (rw e at (l .inv .1)))
+    sym (all-digits _ _ _ (record { some = omega arith; most = omega arith; places = omega arith; there = omega arith; low = rw e at (l .inv .1) }))
 
 pub digits-ok-spec : {M : Type 1} → statement M
 digits-ok-spec =
@@ -65,10 +71,12 @@ digits-ok-spec =
     returns-2
     add-n
     returns-3
-    loop-holds
-    shared-slice-read-if4
     returns-4
+    returns-5
+    loop-holds
+    shared-slice-read-if6
+    returns-6
     add-k
     loop-less
     loop-again
-    returns-5)
+    returns-7)

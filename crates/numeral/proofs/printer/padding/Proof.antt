@@ -1,5 +1,5 @@
 -- What is left to count, from the place reached, with the zeros passed makes the whole count; the first digit that is not 0 ends it.
--- Assumes nothing.
+-- Assumes what the contract requires, and nothing else.
 use borrow.Author.Needs.{needs}
 use denote.Ref.{now}
 use Prim.Native.Nat.{_≤_, _+_, _-_}

@@ -32,7 +32,7 @@ slice-aggregate-put-text c = search needs
 put-text-requires : tie.Need-put-text-requires
 put-text-requires c κs =
     let h = are-digits _ _ _ (printed (c .before)) in
-    ((h .0, omega arith), h .1)
+    ((h .most, omega arith), (h .there, h .low))
 
 returns-2 : tie.Need-returns-2
 unfolding printTold printLeaves

@@ -1,5 +1,5 @@
 -- A store at a place leaves what stands before it and after it.
--- Assumes nothing.
+-- Assumes what the contract requires, and nothing else.
 use denote.Ref.{now}
 use native.Mathlib.Numerals.{add-one}
 use lib.Seq.{set-split}

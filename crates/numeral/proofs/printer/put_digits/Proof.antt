@@ -1,5 +1,5 @@
 -- The digits passed are printed, and the others are as they were.
--- Assumes nothing.
+-- Assumes what the contract requires, and nothing else.
 use borrow.Author.Needs.{needs}
 use denote.Ref.{now}
 use Prim.Native.Nat.{_≤_, _+_, _-_}

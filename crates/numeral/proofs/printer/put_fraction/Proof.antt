@@ -1,5 +1,5 @@
 -- Without fractional digits nothing is put; otherwise the point, and the digits after it.
--- Assumes nothing.
+-- Assumes what the contract requires, and nothing else.
 use borrow.Author.Needs.{needs}
 use denote.Ref.{now}
 use mathlib.Core.Path.{refl, sym, _∙_}

@@ -1,5 +1,5 @@
 -- The minus sign is the byte put in front; without it nothing is put.
--- Assumes nothing.
+-- Assumes what the contract requires, and nothing else.
 use mathlib.Core.Path.{refl}
 use lib.Dec.{lit≤}
 use borrow.Author.Needs.{needs}

@@ -1,5 +1,5 @@
 -- The sign, the integral digits and the fraction are printed one after another.
--- Assumes nothing.
+-- Assumes what the contract requires, and nothing else.
 use borrow.Author.Needs.{needs}
 use denote.Ref.{now}
 use mathlib.Core.List.{map}

@@ -1,5 +1,5 @@
 -- Without integral digits a 0 is put; otherwise the zeros that pad the first group are passed over, and all other digits are printed.
--- Assumes nothing.
+-- Assumes what the contract requires, and nothing else.
 use borrow.Author.Needs.{needs}
 use denote.Ref.{now}
 use mathlib.Core.Path.{refl}

@@ -1,5 +1,5 @@
 -- The characters passed are digits, so the run is as many and those that follow; it ends at the first that is none, or with the text.
--- Assumes nothing.
+-- Assumes what the contract requires, and nothing else.
 use denote.Ref.{now}
 use Prim.Native.Nat.{_≤_, _+_, _-_}
 use mathlib.Core.Path.{_≡_, sym, _∙_}

@@ -1,5 +1,5 @@
 -- The digits before the point are copied to the front and those after it behind them, which leaves the array's zeros after both.
--- Assumes nothing.
+-- Assumes what the contract requires, and nothing else.
 use mathlib.Core.Path.{_∙_}
 use native.Mathlib.Omega.{arith}
 use borrow.Author.Needs.{needs}

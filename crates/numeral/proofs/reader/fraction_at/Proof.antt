@@ -1,5 +1,5 @@
 -- The definition's cases are the ways: the text ends, no point stands there, or the digits after the point reach the end or not.
--- Assumes nothing.
+-- Assumes what the contract requires, and nothing else.
 use denote.Ref.{now}
 use mathlib.Core.Path.{sym, _∙_}
 use native.Mathlib.Omega.{arith}

@@ -1,5 +1,5 @@
 -- The refusals in their order, by what follows the integral digits and by how many digits there are; past them the digits are copied.
--- Assumes nothing.
+-- Assumes what the contract requires, and nothing else.
 use denote.Ref.{now}
 use Prim.Native.Nat.{_+_, _-_}
 use mathlib.Core.Path.{_≡_, sym, _∙_}

@@ -1,5 +1,5 @@
 -- The character at the place, where there is one, is passed if it is a sign.
--- Assumes nothing.
+-- Assumes what the contract requires, and nothing else.
 use denote.Ref.{now}
 use Prim.Native.Nat.{_≤_}
 use mathlib.Core.Path.{sym, _∙_}

@@ -1,5 +1,5 @@
 -- After each turn the digits passed are copied, and the rest is as it was.
--- Assumes nothing.
+-- Assumes what the contract requires, and nothing else.
 use denote.Ref.{now}
 use Prim.Native.Nat.{_≤_, _+_, _-_}
 use mathlib.Core.Path.{_≡_, refl}
