@@ -28,7 +28,7 @@ use Rattle.decimal.specs.declared.Answer.{Answer}
 use Rattle.decimal.proofs.Lex.{zeros-before, zeros-after, at-after, all-zero}
 
 -- ---- leading zeros
-leading-le : (n : ℕ) (gs : List ℕ) → leadingIn n gs ≤ n
+pub leading-le : (n : ℕ) (gs : List ℕ) → leadingIn n gs ≤ n
 unfolding leadingIn
 leading-le zero gs = omega arith
 leading-le (suc n) [] = omega arith
@@ -98,7 +98,7 @@ value-of i f neg gs h = go (eqb (i + f) 0) refl
     go false q = refl
 
 -- ---- the precision kept or not
-whole-groups : (m : ℕ) → groupsOf (9 * m) ≡ m
+pub whole-groups : (m : ℕ) → groupsOf (9 * m) ≡ m
 unfolding groupsOf
 whole-groups m = omega arith
 
@@ -169,7 +169,7 @@ same-read F bs p s neg e =
     (same-finished (p - s) s neg (tab 9 (storedAt F (p - s) s ds)) (length-tab 9 _) (omega arith) (read-ends F (p - s) s ds))
 
 -- ---- an answer, refused or not
-abbrev answered : Bool → Decimal → ℕ → Answer
+abbrev pub answered : Bool → Decimal → ℕ → Answer
 answered t d n = cond t (accepted d) (refused n)
 
 answer-refusal : (t : Bool) (a b : Decimal) (n : ℕ) → answered t a n .refusal ≡ answered t b n .refusal

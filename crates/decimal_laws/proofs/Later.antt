@@ -20,7 +20,7 @@ use Rattle.groups.proofs.Accept.{in-range}
 use Rattle.groups.proofs.Marks.{length-in}
 use Rattle.groups.proofs.Sizes.{size-pos}
 use Rattle.groups.proofs.Tab.{tab-at, length-tab, filled}
-use Rattle.decimal.specs.Read.{negative, formOf, nought, decimalOf, without, finished, refused, accepted, fromGroups, readBin}
+use Rattle.decimal.specs.Read.{negative, formOf, nought, decimalOf, without, finished, refused, accepted, fromGroups, readBin, readPacked}
 use Rattle.decimal_laws.proofs.Bytes.{after}
 use Rattle.decimal_laws.proofs.Places.{range-front, stored-front}
 use Rattle.decimal_laws.proofs.RoundTrip.{packed-size}
@@ -106,3 +106,8 @@ later-bytes [] rest p s keep l = go (inRange p s) refl
         let y : s ≡ 0 = omega arith in
         rw (z, y) (nothing-read rest keep ∙ sym (nothing-read [] keep))
 later-bytes (b ∷ bs) rest p s keep l = same-sign b bs rest p s keep l
+
+pub later-packed : (p s : ℕ) (bs rest : List ℕ) (keep : Bool) → size (p - s) s ≤ length bs
+    → readPacked (p ∷ s ∷ (bs ++ rest)) keep ≡ readPacked (p ∷ s ∷ bs) keep
+unfolding readPacked
+later-packed p s bs rest keep l = later-bytes bs rest p s keep l

@@ -7,4 +7,7 @@ pub mod Weights
 pub mod Trimmed
 pub mod Reparsed
 pub mod Printed
+pub mod Formed
+pub mod Meaning
+pub mod Lengths
 pub mod Answers

@@ -48,7 +48,8 @@ unfolding fractionText
 fraction-tail i f ds e = tail-is f (drop i ds) (simp length-drop (omega arith))
 
 -- ---- groups of digits: what follows the digits does not matter
-tab-front : (i f : ℕ) (ds rest : List ℕ) → f ≤ 30 → i + f ≤ 65 → length ds ≡ i + f → tab 9 (storedAt Digits i f (ds ++ rest)) ≡ tab 9 (storedAt Digits i f ds)
+pub tab-front : (i f : ℕ) (ds rest : List ℕ) → f ≤ 30 → i + f ≤ 65 → length ds ≡ i + f
+    → tab 9 (storedAt Digits i f (ds ++ rest)) ≡ tab 9 (storedAt Digits i f ds)
 tab-front i f ds rest hf h e =
     let l : sizeIn Digits i f ≤ length ds = rw (digits-size i f hf h) (le-of-eq (sym e)) in
     filled 9 (storedAt Digits i f ds) (tab 9 (storedAt Digits i f (ds ++ rest))) (length-tab 9 _)
@@ -79,36 +80,36 @@ sign-kept true gs h e = not-true (isNought gs) h
 sign-kept false gs h e = cc
 
 -- ---- a decimal's digits: the integral ones that are printed, those of them that are read again, and those of the fraction
-abbrev wholeOf : Decimal → List ℕ
+abbrev pub wholeOf : Decimal → List ℕ
 wholeOf d = wholeDigits (d .intg) (digitsOf d)
 
 abbrev backOf : Decimal → List ℕ
 backOf d = readFrom (d .sign) (wholeOf d)
 
-abbrev fractionOf : Decimal → List ℕ
+abbrev pub fractionOf : Decimal → List ℕ
 fractionOf d = drop (d .intg) (digitsOf d)
 
-module _ (d : Decimal) (n : length (d .groups) ≡ 9) (w : isWell d ≡ true) where
-  limits : (1 ≤ d .intg + d .frac) × ((d .intg + d .frac ≤ 65) × (d .frac ≤ 30))
+module _ (d : Decimal) (w : isWell d ≡ true) where
+  pub limits : (1 ≤ d .intg + d .frac) × ((d .intg + d .frac ≤ 65) × (d .frac ≤ 30))
   limits = well-digits (d .intg) (d .frac) (d .groups) w
 
-  digits-count : length (digitsOf d) ≡ d .intg + d .frac
+  pub digits-count : length (digitsOf d) ≡ d .intg + d .frac
   digits-count = length-to Digits (d .intg) (d .frac) (d .groups) 9 ∙ digits-size (d .intg) (d .frac) (limits .1 .1) (limits .1 .0)
 
   digits-below : Below 10 (digitsOf d)
   digits-below = to-below Digits (d .intg) (d .frac) (d .groups) 9
 
-  whole-fits : d .intg ≤ length (digitsOf d)
+  pub whole-fits : d .intg ≤ length (digitsOf d)
   whole-fits = let e = digits-count in omega arith
 
-  fraction-count : length (fractionOf d) ≡ d .frac
+  pub fraction-count : length (fractionOf d) ≡ d .frac
   fraction-count = let e = digits-count in simp length-drop (omega arith)
 
-  groups-are : tab 9 (storedAt Digits (d .intg) (d .frac) (digitsOf d)) ≡ d .groups
-  groups-are =
+  pub groups-are : length (d .groups) ≡ 9 → tab 9 (storedAt Digits (d .intg) (d .frac) (digitsOf d)) ≡ d .groups
+  groups-are n =
       sym (filled 9 _ (d .groups) n (λ k l. sym (stored-written Digits (d .intg) (d .frac) (d .groups) k l (each-well (d .intg) (d .frac) (d .groups) w k l))))
 
-  printed-is : printed d ≡ signText (d .sign) ++ (map show (wholeOf d) ++ tailOf (fractionOf d))
+  pub printed-is : printed d ≡ signText (d .sign) ++ (map show (wholeOf d) ++ tailOf (fractionOf d))
   unfolding printed
   printed-is = rw (fraction-tail (d .intg) (d .frac) (digitsOf d) digits-count)
 
@@ -143,13 +144,13 @@ module _ (d : Decimal) (n : length (d .groups) ≡ 9) (w : isWell d ≡ true) wh
       ∙ ap (λ (t : Numeral). accepted (ofNumeral t)) read-back
       ∙ ap accepted (digits-front (d .sign) (length (backOf d)) (d .frac) (backOf d ++ fractionOf d) _ (limits .1 .1) back-fits back-count)
 
-  back-value : value (ofDigits (d .sign) (length (backOf d)) (d .frac) (backOf d ++ fractionOf d)) ≡ value d
+  back-value : length (d .groups) ≡ 9 → value (ofDigits (d .sign) (length (backOf d)) (d .frac) (backOf d ++ fractionOf d)) ≡ value d
   unfolding value ofDigits
-  back-value =
+  back-value n =
       let h = limits in
       let p = row-magnitude (length (backOf d)) (d .frac) (backOf d ++ fractionOf d) (h .1 .1) back-fits back-count in
       let q = row-magnitude (d .intg) (d .frac) (digitsOf d) (h .1 .1) (h .1 .0) digits-count in
-      sign-value (d .sign) _ _ ∙ ap (signed (d .sign)) (p ∙ rw back-number (sym (rw groups-are at q)))
+      sign-value (d .sign) _ _ ∙ ap (signed (d .sign)) (p ∙ rw back-number (sym (rw (groups-are n) at q)))
 
   -- ---- the same record
   plain-text : d .sign ≡ false → printed d ≡ map show (wholeOf d) ++ tailOf (fractionOf d)
@@ -169,12 +170,12 @@ module _ (d : Decimal) (n : length (d .groups) ≡ 9) (w : isWell d ≡ true) wh
       let n = length-take-le (d .intg) (digitsOf d) whole-fits in
       back-whole s ∙ trimmed-same (whole-trims (d .intg) (digitsOf d) (s .integral) whole-fits) (s .as-long ∙ sym n)
 
-  same-comes-back : Same d → parseText (printed d) ≡ accepted d
+  same-comes-back : length (d .groups) ≡ 9 → Same d → parseText (printed d) ≡ accepted d
   unfolding ofDigits
-  same-comes-back s =
+  same-comes-back n s =
       let l = length-take-le (d .intg) (digitsOf d) whole-fits in
       let g = sign-same (d .sign) (d .groups) (s .no-sign) in
-      parsed ∙ rw (back-digits s, l, take-append-drop (d .intg) (digitsOf d), groups-are, g)
+      parsed ∙ rw (back-digits s, l, take-append-drop (d .intg) (digitsOf d), groups-are n, g)
 
   back-is-same : parseText (printed d) ≡ accepted d → Same d
   unfolding ofDigits
@@ -200,7 +201,7 @@ module _ (d : Decimal) (n : length (d .groups) ≡ 9) (w : isWell d ≡ true) wh
 -- ---- the laws
 pub print-parse : (d : Decimal) → length (d .groups) ≡ 9 → isWell d ≡ true
     → (parseText (printed d) .refusal ≡ 0) × (value (parseText (printed d) .decimal) ≡ value d)
-print-parse d n w = rw (parsed d n w) (refl, back-value d n w)
+print-parse d n w = rw (parsed d w) (refl, back-value d w n)
 
 pub same-record : (d : Decimal) → length (d .groups) ≡ 9 → isWell d ≡ true → (parseText (printed d) ≡ accepted d) ↔ Same d
-same-record d n w = (back-is-same d n w, same-comes-back d n w)
+same-record d n w = (back-is-same d w, same-comes-back d w n)

@@ -55,13 +55,16 @@ module _ (F : Form) (i f : ℕ) (ds : List ℕ) (h : Below (baseOf F) ds) (l : s
   well-read r k m = rw (unscaled k m, tab-at 9 (storedAt F i f ds) k m, mul-mod-left (groupAt F i f ds k) (unitOf i k (digitsAt i f k))) (r k m)
 
 -- ---- reading without a refusal
+pub not-refused : (n : ℕ) (d : Decimal) → cond {A = Answer} (eqb n 0) (accepted d) (refused n) .refusal ≡ 0 → n ≡ 0
+not-refused n d e = go (eqb n 0) refl e
+  where
+    go : (t : Bool) → eqb n 0 ≡ t → cond {A = Answer} t (accepted d) (refused n) .refusal ≡ 0 → n ≡ 0
+    go true q e = eqb-true n 0 q
+    go false q e = e
+
 pub groups-of : (g : Groups) (i f : ℕ) (neg keep : Bool) → fromGroups g i f neg keep .refusal ≡ 0 → g .refusal ≡ 0
 unfolding fromGroups
-groups-of g i f neg keep e = go (eqb (g .refusal) 0) refl e
-  where
-    go : (t : Bool) → eqb (g .refusal) 0 ≡ t → cond {A = Answer} t (accepted (finished keep i f neg (g .groups))) (refused (g .refusal)) .refusal ≡ 0 → g .refusal ≡ 0
-    go true q e = eqb-true (g .refusal) 0 q
-    go false q e = e
+groups-of g i f neg keep e = not-refused (g .refusal) (finished keep i f neg (g .groups)) e
 
 module _ (bs : List ℕ) (p s : ℕ) where
   pub kept : 1 ≤ p → readBin bs p s true .refusal ≡ 0
@@ -79,11 +82,11 @@ pub packed-size : (neg : Bool) (i f : ℕ) → sizeIn (formOf neg) i f ≡ size 
 packed-size true i f = inverted-offset i f 9
 packed-size false i f = refl
 
-packed-base : (neg : Bool) → baseOf (formOf neg) ≡ 256
+pub packed-base : (neg : Bool) → baseOf (formOf neg) ≡ 256
 packed-base true = refl
 packed-base false = refl
 
-well-of : (i f : ℕ) (gs : List ℕ) → 1 ≤ i + f → i + f ≤ 65 → f ≤ 30 → ((k : ℕ) → k < 9 → wellAt i f k (getD gs k 0) ≡ true) → wellFormed i f gs ≡ true
+pub well-of : (i f : ℕ) (gs : List ℕ) → 1 ≤ i + f → i + f ≤ 65 → f ≤ 30 → ((k : ℕ) → k < 9 → wellAt i f k (getD gs k 0) ≡ true) → wellFormed i f gs ≡ true
 unfolding wellFormed digitsOk
 well-of i f gs a b c h = simp (le-leb _ _ a, le-leb _ _ b, le-leb _ _ c) (all-true (λ k. wellAt i f k (getD gs k 0)) 9 h)
 

@@ -44,7 +44,7 @@ billion (suc n) =
     rw (pow-suc, billion n, e, pow-add)
 
 -- ---- the digits before each place: i less whole groups of nine up to the point, and from there on i and whole groups, as long as there are digits
-rounded : (i : ℕ) → (i ≤ 9 * groupsOf i) × (9 * groupsOf i ≤ i + 8)
+pub rounded : (i : ℕ) → (i ≤ 9 * groupsOf i) × (9 * groupsOf i ≤ i + 8)
 unfolding groupsOf
 rounded i = omega arith
 
