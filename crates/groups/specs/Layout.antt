@@ -1,7 +1,8 @@
 -- How a decimal's digits go in groups (decimal.c of MySQL; document 01, 'Decimal rules'). Digits go in groups of nine from the point
 -- outwards, so of a side of n digits the j-th group from the point has min 9 (n - 9 * j) of them. A decimal has nine places for groups:
 -- first those of the integral side, the one at the point last, then those of the fraction. A place past the last group has no digits, takes
--- no bytes and reads as 0, so that every decimal has nine. 1234567890.1234 has the groups 1, 234567890 and 1234.
+-- no bytes and reads as 0, so that every decimal has nine. The bytes of 1234567890.1234 hold the groups 1, 234567890 and 1234; its
+-- record holds 123400000 for the last.
 -- Assumes nothing.
 use Prim.Native.Nat.{ℕ, zero, suc, _+_, _-_, _*_, _/_, min}
 use mathlib.Core.Bool.{cond}

@@ -1,4 +1,6 @@
--- How the digits of all groups stand in bytes (document 01: a negative value has all bytes inverted; then the first bit is flipped).
+-- How the digits of all groups stand in bytes (document 01: a negative value has all bytes inverted; then the first bit, that of 128, is flipped).
+-- In the packed forms the digits are those in base 256: the groups 1, 234567890 and 1234 are 01, 0D FB 38 D2 and 04 D2, so the bytes are
+-- 81 0D FB 38 D2 04 D2, and of the negative value 7E F2 04 C7 2D FB 2D.
 -- `bytesOf` writes digits, `digitsIn` reads them back; with the form Digits the bytes are the digits.
 -- Assumes nothing.
 use Prim.Native.Nat.{ℕ, _+_, _-_}

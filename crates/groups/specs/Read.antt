@@ -1,5 +1,5 @@
 -- What reading the groups of a decimal answers: 20, then 21, then 22 where a group has more digits than its place, else the nine groups as
--- they are stored.
+-- they are kept in a record.
 -- Assumes nothing.
 use Prim.Native.Nat.{ℕ, _-_, _*_, _^_}
 use mathlib.Core.Bool.{Bool, cond}
@@ -24,7 +24,7 @@ groupAt F i f ds k = number (baseOf F) (take (wideOf F (digitsAt i f k)) (drop (
 unfoldable pub rangeAt : Form → ℕ → ℕ → List ℕ → ℕ → Bool
 rangeAt F i f ds k = ltb (groupAt F i f ds k) (10 ^ digitsAt i f k)
 
--- a group of d digits of the fraction is stored as if it had nine, so the last of a fraction is scaled
+-- a record keeps a group of d digits of the fraction as if it had nine, so the last of a fraction is filled with zeros
 unfoldable pub unitOf : ℕ → ℕ → ℕ → ℕ
 unitOf i k d = cond (ltb k (groupsOf i)) 1 (10 ^ (9 - d))
 

@@ -23,10 +23,10 @@ unfoldable pub unsigned : List ℕ → List ℕ
 unsigned [] = []
 unsigned (x ∷ xs) = cond (eqb x 45) xs (cond (eqb x 43) xs (x ∷ xs))
 
--- then digits with at most one point and at least one digit: as many digits as it begins with,
 abbrev pub isDigit : ℕ → Bool
 isDigit c = both (leb 48 c) (leb c 57)
 
+-- then digits with at most one point and at least one digit: as many digits as it begins with,
 unfoldable pub run : List ℕ → ℕ
 run [] = 0
 run (x ∷ xs) = cond (isDigit x) (suc (run xs)) 0
