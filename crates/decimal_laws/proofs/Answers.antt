@@ -1,12 +1,12 @@
--- Two answers that a contract allows are equal: each contract is an equation of the answer, or of what is told of it, and what is told gives the
--- answer back.
+-- What is told of a count, and of an order, gives it back, so two answers that a contract allows are equal.
 -- Assumes nothing.
-use mathlib.Core.Path.{_≡_, refl, sym, ap, _∙_}
+use mathlib.Core.Path.{_≡_, refl}
 use mathlib.Core.Bool.{cond}
 use Prim.Native.Nat.{ℕ, zero, suc}
 use lib.Dec.{eqb}
 use lib.ListN.{length, getD}
 use Rattle.refusal.specs.Told.{Told}
+use Rattle.refusal.proofs.Answers.{one-answer}
 use Rattle.groups.specs.Write.{told as countTold}
 use Rattle.groups.specs.declared.Counted.{Counted}
 use Rattle.groups.specs.declared.Counted.the-variants as counted
@@ -14,14 +14,6 @@ use Rattle.decimal.specs.Value.{told as orderTold}
 use Rattle.decimal.specs.declared.Compared.{Compared}
 use Rattle.decimal.specs.declared.Compared.the-variants as compared
 
--- two answers of which the same is said are equal, where what is said gives the answer back. An answer that is a record is said by itself
-pub one-answer : {A B : Type 0} (say : A → B) (back : B → A) → ((r : A) → back (say r) ≡ r) → (d : B) (r s : A) → say r ≡ d → say s ≡ d → r ≡ s
-one-answer say back again d r s p q = sym (again r) ∙ ap back (p ∙ sym q) ∙ again s
-
-pub record-answer : {A : Type 0} (d r s : A) → r ≡ d → s ≡ d → r ≡ s
-record-answer d r s p q = one-answer (λ x. x) (λ x. x) (λ x. refl) d r s p q
-
--- ---- what is told of a count, and of an order
 counted-by : Told → Counted
 counted-by t = cond (eqb (length (t .values)) 0) (counted.Refused (t .number)) (counted.Bytes (getD (t .values) 0 0))
 
