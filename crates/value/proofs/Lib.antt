@@ -1,0 +1,4 @@
+mod Cond
+mod Places
+mod Doubles
+mod Cases
