@@ -1,4 +1,4 @@
-mod Cond
+pub mod Cond
 mod Places
 mod Doubles
 mod Cases

@@ -1,0 +1,3 @@
+mod Places
+mod Cases
+pub mod Gates

@@ -1,0 +1,4 @@
+pub mod Said
+pub mod Views
+pub mod Steps
+pub mod Course

@@ -1,0 +1,43 @@
+-- What an answer of this crate says: something, nothing (which is no refusal), or a refusal by document 01's number. Each enum of answers has a
+-- definition that takes every case there, and the promises are equations of what is said.
+-- Assumes nothing.
+use Prim.Native.Nat.{ℕ}
+use Rattle.value.specs.declared.Value.{Value}
+use Rattle.value.specs.declared.Span.{Span}
+use Rattle.value.specs.declared.Read.{Read}
+use Rattle.value.specs.declared.Read.the-variants as read
+use Rattle.jsonb.specs.declared.Found.{Found}
+use Rattle.jsonb.specs.declared.Found.the-variants as found
+use Rattle.jsonb.specs.declared.Key.{Key}
+use Rattle.jsonb.specs.declared.Key.the-variants as key
+use Rattle.jsonb.specs.declared.Count.{Count}
+use Rattle.jsonb.specs.declared.Count.the-variants as count
+
+pub data Said (A : Type 0) : Type 0 where
+  says : A → Said A
+  nothing : Said A
+  refuses : ℕ → Said A
+
+-- document 01's number, 0 where there is no refusal
+abbrev pub numberOf : {A : Type 0} → Said A → ℕ
+numberOf (says x) = 0
+numberOf nothing = 0
+numberOf (refuses n) = n
+
+abbrev pub readSaid : Read → Said Value
+readSaid (read.Value x) = says x
+readSaid (read.Refused n) = refuses n
+
+abbrev pub foundSaid : Found → Said Value
+foundSaid (found.Value x) = says x
+foundSaid found.Nothing = nothing
+foundSaid (found.Refused n) = refuses n
+
+abbrev pub keySaid : Key → Said Span
+keySaid (key.Key s) = says s
+keySaid key.Nothing = nothing
+keySaid (key.Refused n) = refuses n
+
+abbrev pub countSaid : Count → Said ℕ
+countSaid (count.Count n) = says n
+countSaid (count.Refused n) = refuses n

@@ -1,0 +1,39 @@
+// MySQL's binary JSON: the root, containers by their views, elements, keys and members.
+mod entry;
+mod gate;
+mod root;
+mod steps;
+
+pub use entry::elem_at;
+pub use entry::element_count;
+pub use entry::key_at;
+pub use root::deserialize;
+pub use steps::Element;
+pub use steps::Elements;
+pub use steps::KeyStep;
+pub use steps::Keys;
+pub use steps::Member;
+pub use steps::MemberStep;
+pub use steps::Members;
+use value::Span;
+use value::Value;
+
+// An element: a value, nothing at or past the count, or a refusal.
+pub enum Found {
+    Value(Value),
+    Nothing,
+    Refused(u8),
+}
+
+// A key's bytes, nothing, or a refusal.
+pub enum Key {
+    Key(Span),
+    Nothing,
+    Refused(u8),
+}
+
+// A count, or a refusal.
+pub enum Count {
+    Count(u32),
+    Refused(u8),
+}
