@@ -1,2 +1,3 @@
 pub mod Iteration
 pub mod Inside
+pub mod SameFront
