@@ -16,7 +16,7 @@ step : (w i n : ℕ) → i < n → i * w + w ≤ n * w
 step w i n h = let p : suc i * w ≤ n * w = mul-le-mul-right w h in omega (arith, suc-mul i w)
 
 module _ (k : Kind) (n i : ℕ) (h : i < n) where
-  value-inside : valuePlace k n i + (offsetSize k + 1) ≤ headerSize k n
+  pub value-inside : valuePlace k n i + (offsetSize k + 1) ≤ headerSize k n
   unfolding valuePlace headerSize
   value-inside = omega (arith, step (offsetSize k + 1) i n h)
 
