@@ -1,0 +1,6 @@
+pub mod Words
+pub mod Steps
+pub mod Grammar
+pub mod Place
+pub mod Answers
+pub mod Examples
