@@ -12,19 +12,19 @@ use Rattle.raw.specs.Numbers.{le}
 use Rattle.codes.specs.Types.{typeOf}
 use Rattle.codes.specs.declared.types.JsonbType.{JsonbType}
 use Rattle.codes.specs.declared.types.TypeOf.{TypeOf}
-use Rattle.value.specs.Layout.{offsetSize, offsetAt, headerSize, valuePlace, keyPlace}
-use Rattle.value.specs.Reading.{span, headerRead, readAt}
+use Rattle.layout.specs.Layout.{offsetSize, offsetAt, headerSize, valuePlace, keyPlace}
+use Rattle.content.specs.Reading.{span, headerRead, readAt}
 use Rattle.value.specs.declared.View.{View}
-use Rattle.value.specs.declared.Header.{Header}
-use Rattle.value.specs.declared.Header.the-variants.{Whole, Refused}
-use Rattle.value.specs.declared.Read.{Read}
-use Rattle.value.specs.declared.Read.the-variants as read
+use Rattle.content.specs.declared.Header.{Header}
+use Rattle.content.specs.declared.Header.the-variants.{Whole, Refused}
+use Rattle.content.specs.declared.Read.{Read}
+use Rattle.content.specs.declared.Read.the-variants as read
 use Rattle.value.specs.declared.Span.{Span}
 use Rattle.jsonb.specs.declared.Key.{Key}
 use Rattle.jsonb.specs.Said.{Said, says, refuses, readSaid, keySaid}
 use Rattle.jsonb.specs.Views.{typedAt, matches, names, isInlined, pointedAt, typedEntry, entryOf, entryAt, endOf, keyEntryAt, keyOffset, keyLength}
 use Rattle.jsonb.specs.Steps.{memberOf}
-use Rattle.value.proofs.Cond.{yes, no}
+use Rattle.layout.proofs.Cond.{yes, no}
 
 -- the root; y is its type as the callee gives it
 pub root-is : (d : List ℕ) {y z : TypeOf} → y ≡ typeOf (getD d 0 0) → y ≡ z →

@@ -8,12 +8,12 @@ use native.Mathlib.Omega.{arith}
 use lib.ListN.{length}
 use lib.Dec.{ltb, leb, eqb}
 use borrow.Author.Tests.{ltb-false, leb-false, eqb-true}
-use Rattle.value.specs.Layout.{offsetSize, offsetAt, headerSize}
-use Rattle.value.specs.Reading.{headerAt, headerRead, placeFault}
-use Rattle.value.specs.declared.Kind.{Kind}
+use Rattle.layout.specs.Layout.{offsetSize, offsetAt, headerSize}
+use Rattle.content.specs.Reading.{headerAt, headerRead, placeFault}
+use Rattle.layout.specs.declared.Kind.{Kind}
 use Rattle.value.specs.declared.View.{View}
-use Rattle.value.specs.declared.Header.{Header}
-use Rattle.value.specs.declared.Header.the-variants as header
+use Rattle.content.specs.declared.Header.{Header}
+use Rattle.content.specs.declared.Header.the-variants as header
 use Rattle.jsonb.specs.declared.gate.Gate.{Gate}
 use Rattle.jsonb.specs.declared.gate.Gate.the-variants.{Open, Nothing, Refused}
 use Rattle.jsonb.specs.Said.{Said, says, nothing, refuses}

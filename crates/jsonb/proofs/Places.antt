@@ -6,8 +6,8 @@ use mathlib.Core.List.{List}
 use Prim.Native.Nat.{ℕ, suc, _+_, _*_, _≤_, _<_}
 use native.Mathlib.Omega.{arith}
 use native.Mathlib.Nat.{mul-le-mul-right, suc-mul}
-use Rattle.value.specs.Layout.{offsetSize, valuePlace, headerSize}
-use Rattle.value.specs.declared.Kind.{Kind}
+use Rattle.layout.specs.Layout.{offsetSize, valuePlace, headerSize}
+use Rattle.layout.specs.declared.Kind.{Kind}
 use Rattle.value.specs.declared.View.{View}
 use Rattle.jsonb.specs.Course.{Whole, EntryBody}
 

@@ -5,7 +5,7 @@ use mathlib.Core.Bool.{Bool, cond}
 use mathlib.Core.List.{List}
 use lib.Dec.{ltb, leb}
 use lib.ListN.{length}
-use Rattle.value.specs.Layout.{offsetSize, headerSize}
+use Rattle.layout.specs.Layout.{offsetSize, headerSize}
 use Rattle.value.specs.declared.View.{View}
 use Rattle.jsonb.specs.Views.{matches}
 use Rattle.jsonb.specs.declared.gate.Gate.{Gate}

@@ -4,8 +4,8 @@
 use Prim.Native.Nat.{ℕ}
 use Rattle.value.specs.declared.Value.{Value}
 use Rattle.value.specs.declared.Span.{Span}
-use Rattle.value.specs.declared.Read.{Read}
-use Rattle.value.specs.declared.Read.the-variants as read
+use Rattle.content.specs.declared.Read.{Read}
+use Rattle.content.specs.declared.Read.the-variants as read
 use Rattle.jsonb.specs.declared.Found.{Found}
 use Rattle.jsonb.specs.declared.Found.the-variants as found
 use Rattle.jsonb.specs.declared.Key.{Key}

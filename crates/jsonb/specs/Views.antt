@@ -11,17 +11,17 @@ use Rattle.codes.specs.declared.types.JsonbType.{JsonbType}
 use Rattle.codes.specs.declared.types.JsonbType.the-variants as type
 use Rattle.codes.specs.declared.types.TypeOf.{TypeOf}
 use Rattle.codes.specs.declared.types.TypeOf.the-variants as type-of
-use Rattle.value.specs.Layout.{offsetSize, keyPlace, valuePlace, headerSize, offsetAt}
-use Rattle.value.specs.Reading.{span, scalarOf, headerRead, readAt}
-use Rattle.value.specs.declared.Kind.{Kind}
+use Rattle.layout.specs.Layout.{offsetSize, keyPlace, valuePlace, headerSize, offsetAt}
+use Rattle.content.specs.Reading.{span, scalarOf, headerRead, readAt}
+use Rattle.layout.specs.declared.Kind.{Kind}
 use Rattle.value.specs.declared.View.{View}
 use Rattle.value.specs.declared.Span.{Span}
 use Rattle.value.specs.declared.Value.{Value}
 use Rattle.value.specs.declared.Scalar.the-variants as scalar
-use Rattle.value.specs.declared.Read.{Read}
-use Rattle.value.specs.declared.Read.the-variants as read
-use Rattle.value.specs.declared.Header.{Header}
-use Rattle.value.specs.declared.Header.the-variants as header
+use Rattle.content.specs.declared.Read.{Read}
+use Rattle.content.specs.declared.Read.the-variants as read
+use Rattle.content.specs.declared.Header.{Header}
+use Rattle.content.specs.declared.Header.the-variants as header
 use Rattle.jsonb.specs.Said.{Said, says, nothing, refuses, readSaid}
 
 -- ---- the root: 1, then the empty document is null, then the type, then its value; bytes after it are not read

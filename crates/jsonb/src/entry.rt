@@ -7,7 +7,7 @@ use super::gate::gate_at;
 use super::gate::is_whole;
 use codes::JsonbType;
 use codes::TypeOf;
-use value::Read;
+use content::Read;
 use value::Span;
 use value::View;
 ghost use mathlib.Core.Path.{_≡_};
@@ -46,14 +46,14 @@ fn read_pointed(doc: &[u8], v: View, t: JsonbType, body: usize) -> Read
     let k = v.kind;
     let start = v.start as usize;
     let end = start + v.size as usize;
-    let at = start + value::offset_at(doc, k, body, end) as usize;
+    let at = start + layout::offset_at(doc, k, body, end) as usize;
     if at < body + k.offset_size() {
         return Read::Refused(refusal::POINTER);
     }
     if end < at {
         return Read::Refused(refusal::POINTER);
     }
-    value::value_at(doc, t, at, end)
+    content::value_at(doc, t, at, end)
 }
 
 // The value of a type in an entry, or at its offset.
@@ -63,7 +63,7 @@ fn read_typed(doc: &[u8], v: View, t: JsonbType, body: usize) -> Read
 {
     let k = v.kind;
     if is_inlined(t, k.large) {
-        return value::value_at(doc, t, body, body + k.offset_size());
+        return content::value_at(doc, t, body, body + k.offset_size());
     }
     read_pointed(doc, v, t, body)
 }
@@ -110,7 +110,7 @@ pub(crate) fn read_key(doc: &[u8], v: View, i: u32) -> Key
     let start = v.start as usize;
     let end = start + v.size as usize;
     let place = start + k.key_place(i);
-    let offset = value::offset_at(doc, k, place, end) as usize;
+    let offset = layout::offset_at(doc, k, place, end) as usize;
     let len = raw::u16_at(doc, place + k.offset_size(), end) as usize;
     if offset < k.header_size(v.count) {
         return Key::Refused(refusal::KEY);

@@ -1,5 +1,5 @@
 // What comes before any entry is looked at.
-use value::Header;
+use content::Header;
 use value::View;
 ghost use mathlib.Core.Path.{_≡_};
 ghost use Rattle.jsonb.specs.Views.{matches};
@@ -16,7 +16,7 @@ pub(crate) fn is_whole(doc: &[u8], v: View) -> bool
     ensures { λ r. ⌜ r ≡ matches (now (doc .entry)) v ⌝ }
 {
     let k = v.kind;
-    match value::header_at(doc, k, v.start as usize, doc.len()) {
+    match content::header_at(doc, k, v.start as usize, doc.len()) {
         Header::Whole { count, size } => {
             if count == v.count {
                 size == v.size

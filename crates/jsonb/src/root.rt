@@ -1,7 +1,7 @@
 // The root of a document.
 use codes::JsonbType;
 use codes::TypeOf;
-use value::Read;
+use content::Read;
 use value::Scalar;
 use value::Value;
 ghost use mathlib.Core.Path.{_≡_};
@@ -19,7 +19,7 @@ pub fn deserialize(doc: &[u8]) -> Read
         return Read::Value(Value::Scalar(JsonbType::Literal, Scalar::Null));
     }
     match JsonbType::of(doc[0]) {
-        TypeOf::Known(t) => value::value_at(doc, t, 1, n),
+        TypeOf::Known(t) => content::value_at(doc, t, 1, n),
         TypeOf::Refused(r) => Read::Refused(r),
     }
 }

@@ -6,7 +6,7 @@ use super::entry::read_entry;
 use super::entry::read_key;
 use super::gate::Gate;
 use super::gate::gate_at;
-use value::Read;
+use content::Read;
 use value::Span;
 use value::Value;
 use value::View;

@@ -26,10 +26,10 @@ use Rattle.codes.specs.declared.literals.LiteralOf.the-variants as literal-of
 use Rattle.codes.specs.declared.columns.ColumnType.{ColumnType}
 use Rattle.codes.specs.declared.columns.ColumnOf.{ColumnOf}
 use Rattle.codes.specs.declared.columns.ColumnOf.the-variants as column-of
-use Rattle.value.specs.Layout.{offsetSize, headerSize, offsetAt}
-use Rattle.value.specs.Reading.{kind, span, viewed, containerAt, headerAt, literalOf, literalAt, numberAt, parted, partAt, partOf, stringAt}
-use Rattle.value.specs.Reading.{opaqueOf, opaqueAt, contentAt, placeFault, readAt}
-use Rattle.value.specs.declared.Kind.{Kind}
+use Rattle.layout.specs.Layout.{offsetSize, headerSize, offsetAt}
+use Rattle.content.specs.Reading.{kind, span, viewed, containerAt, headerAt, literalOf, literalAt, numberAt, parted, partAt, partOf, stringAt}
+use Rattle.content.specs.Reading.{opaqueOf, opaqueAt, contentAt, placeFault, readAt}
+use Rattle.layout.specs.declared.Kind.{Kind}
 use Rattle.value.specs.declared.View.{View}
 use Rattle.value.specs.declared.Span.{Span}
 use Rattle.value.specs.declared.Number.{Number}
@@ -37,11 +37,11 @@ use Rattle.value.specs.declared.Scalar.{Scalar}
 use Rattle.value.specs.declared.Scalar.the-variants as scalar
 use Rattle.value.specs.declared.Value.{Value}
 use Rattle.value.specs.declared.Value.the-variants as value
-use Rattle.value.specs.declared.Read.{Read}
-use Rattle.value.specs.declared.Read.the-variants as read
-use Rattle.value.specs.declared.Header.the-variants as header
-use Rattle.value.specs.declared.Part.{Part}
-use Rattle.value.specs.declared.Part.the-variants as part
+use Rattle.content.specs.declared.Read.{Read}
+use Rattle.content.specs.declared.Read.the-variants as read
+use Rattle.content.specs.declared.Header.the-variants as header
+use Rattle.content.specs.declared.Part.{Part}
+use Rattle.content.specs.declared.Part.the-variants as part
 use Rattle.jsonb.specs.Said.{Said, says, nothing, refuses, readSaid}
 use Rattle.jsonb.specs.Views.{typedAt, rootRead, matches, gated, endOf, isInlined, placeAt, pointedAt, typedEntry, entryOf, entryAt, elemAt}
 use Rattle.jsonb.specs.Views.{keyOffset, keyLength, keyEntryAt, keyAt}

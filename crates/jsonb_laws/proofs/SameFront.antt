@@ -21,16 +21,16 @@ use Rattle.codes.specs.declared.types.JsonbType.{JsonbType}
 use Rattle.codes.specs.declared.types.JsonbType.the-variants as type
 use Rattle.codes.specs.declared.types.TypeOf.{TypeOf}
 use Rattle.codes.specs.declared.types.TypeOf.the-variants as type-of
-use Rattle.value.specs.Layout.{offsetSize, headerSize, offsetAt, keyPlace}
-use Rattle.value.specs.Reading.{kind, headerAt, viewed, literalOf, literalAt, numberAt, doubleOf, parted, partAt, partOf, stringAt, opaqueOf, opaqueAt}
-use Rattle.value.specs.Reading.{contentAt, placeFault, readAt}
-use Rattle.value.specs.declared.Kind.{Kind}
+use Rattle.layout.specs.Layout.{offsetSize, headerSize, offsetAt, keyPlace}
+use Rattle.content.specs.Reading.{kind, headerAt, viewed, literalOf, literalAt, numberAt, doubleOf, parted, partAt, partOf, stringAt, opaqueOf, opaqueAt}
+use Rattle.content.specs.Reading.{contentAt, placeFault, readAt}
+use Rattle.layout.specs.declared.Kind.{Kind}
 use Rattle.value.specs.declared.View.{View}
 use Rattle.value.specs.declared.Number.{Number}
 use Rattle.value.specs.declared.Number.the-variants.{Int, Uint}
 use Rattle.value.specs.declared.Scalar.the-variants as scalar
-use Rattle.value.specs.declared.Read.the-variants.{Refused}
-use Rattle.value.specs.declared.Part.{Part}
+use Rattle.content.specs.declared.Read.the-variants.{Refused}
+use Rattle.content.specs.declared.Part.{Part}
 use Rattle.value.specs.declared.Span.{Span}
 use Rattle.value.specs.declared.Value.{Value}
 use Rattle.jsonb.specs.Said.{Said, nothing, refuses, readSaid}

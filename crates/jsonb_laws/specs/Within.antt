@@ -1,7 +1,7 @@
 -- When a value lies between two places of the document: a container with its header, or the bytes of a string or an opaque value, do.
 -- Assumes nothing.
 use Prim.Native.Nat.{ℕ, _+_, _≤_}
-use Rattle.value.specs.Layout.{headerSize}
+use Rattle.layout.specs.Layout.{headerSize}
 use Rattle.value.specs.declared.View.{View}
 use Rattle.value.specs.declared.Span.{Span}
 use Rattle.value.specs.declared.Scalar.{Scalar}

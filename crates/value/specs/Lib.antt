@@ -1,4 +1,1 @@
-pub mod Layout
-pub mod Reading
 pub mod Asked
-pub mod Course

@@ -1,20 +1,9 @@
-// One value of a binary JSON document: a scalar, or a container's view. Positions are absolute in the document; `end` is the end of the enclosing
-// container.
+// One value of a binary JSON document: a scalar, or a container's view.
 mod asked;
-mod content;
-mod layout;
 
 use codes::ColumnType;
 use codes::JsonbType;
-pub use content::header_at;
-pub use content::value_at;
-pub use layout::offset_at;
-
-// What a container is: an object or an array, with offsets of four bytes or of two.
-pub struct Kind {
-    pub object: bool,
-    pub large: bool,
-}
+use layout::Kind;
 
 // A container: its header's first byte, its size, its count and its kind.
 pub struct View {
@@ -50,23 +39,6 @@ pub enum Scalar {
 pub enum Value {
     Scalar(JsonbType, Scalar),
     Container(View),
-}
-
-pub enum Read {
-    Value(Value),
-    Refused(u8),
-}
-
-// Count and size of a container, or a refusal.
-pub enum Header {
-    Whole { count: u32, size: u32 },
-    Refused(u8),
-}
-
-// The bytes after a length field, or a refusal.
-pub enum Part {
-    Bytes(Span),
-    Refused(u8),
 }
 
 // The count of a container, nothing for a scalar.

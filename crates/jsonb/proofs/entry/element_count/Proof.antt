@@ -3,7 +3,7 @@
 use mathlib.Core.Path.{refl, sym, _∙_}
 use borrow.Author.Tests.{lt-ltb, le-ltb}
 use Rattle.jsonb.specs.Views.{countAt}
-use Rattle.value.proofs.Cond.{yes, no}
+use Rattle.layout.proofs.Cond.{yes, no}
 use borrow.Author.Needs.{needs}
 use Rattle.jsonb.proofs.entry.element_count.Statement.{statement}
 use Rattle.jsonb.proofs.entry.element_count.Tie as tie

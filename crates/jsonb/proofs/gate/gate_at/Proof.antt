@@ -3,7 +3,7 @@
 use mathlib.Core.Path.{refl, sym, _∙_}
 use borrow.Author.Tests.{lt-ltb, le-ltb, le-leb, lt-leb, not-true, not-false}
 use Rattle.jsonb.specs.Course.{gateOf}
-use Rattle.value.proofs.Cond.{yes, no}
+use Rattle.layout.proofs.Cond.{yes, no}
 use borrow.Author.Needs.{needs}
 use Rattle.jsonb.proofs.gate.gate_at.Statement.{statement}
 use Rattle.jsonb.proofs.gate.gate_at.Tie as tie

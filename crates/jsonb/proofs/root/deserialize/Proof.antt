@@ -3,7 +3,7 @@
 use mathlib.Core.Path.{refl, _∙_}
 use borrow.Author.Tests.{lt-ltb, le-ltb, eq-eqb, ne-eqb}
 use Rattle.jsonb.specs.Views.{rootRead}
-use Rattle.value.proofs.Cond.{yes, no}
+use Rattle.layout.proofs.Cond.{yes, no}
 use Rattle.jsonb.proofs.Cases.{root-is}
 use borrow.Author.Needs.{needs}
 use Rattle.jsonb.proofs.root.deserialize.Statement.{statement}

@@ -1,7 +1,7 @@
 -- Each answer is said by the case of its own name.
 -- Assumes nothing.
 use mathlib.Core.Path.{sym, ap}
-use Rattle.value.specs.declared.Read.{Read}
+use Rattle.content.specs.declared.Read.{Read}
 use Rattle.jsonb.specs.Said.{readSaid}
 use Rattle.jsonb.specs.Steps.{with-value}
 use borrow.Author.Needs.{needs}

@@ -1,0 +1,2 @@
+mod Doubles
+mod Cases

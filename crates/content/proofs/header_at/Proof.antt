@@ -1,0 +1,21 @@
+-- A place with a fault is refused with its number, and any other is one where the header can be read.
+-- Assumes nothing.
+use Rattle.content.proofs.Cases.{header-fault, header-right, right-place}
+use borrow.Author.Needs.{needs}
+use Rattle.content.proofs.header_at.Statement.{statement}
+use Rattle.content.proofs.header_at.Tie as tie
+
+place-fault-requires : tie.Need-place-fault-requires
+place-fault-requires c κs = search needs
+
+returns : tie.Need-returns
+returns c = header-fault _ _ _ (c .before .place-fault .ensures) _ (c .if1 .taken)
+
+read-header-requires : tie.Need-read-header-requires
+read-header-requires c κs = right-place _ _ _ (c .before .place-fault .ensures) (c .if1 .left)
+
+returns-2 : tie.Need-returns-2
+returns-2 c = header-right _ _ _ (c .before .before .place-fault .ensures) (c .before .if1 .left) _ (c .read-header .ensures)
+
+pub header-at-spec : {M : Type 1} → statement M
+header-at-spec = tie.close (tie.spec place-fault-requires returns read-header-requires returns-2)

@@ -1,0 +1,21 @@
+-- A place with a fault is refused with its number, and any other is one where the content can be read.
+-- Assumes nothing.
+use Rattle.content.proofs.Cases.{read-fault, read-right, right-place}
+use borrow.Author.Needs.{needs}
+use Rattle.content.proofs.value_at.Statement.{statement}
+use Rattle.content.proofs.value_at.Tie as tie
+
+place-fault-requires : tie.Need-place-fault-requires
+place-fault-requires c κs = search needs
+
+returns : tie.Need-returns
+returns c = read-fault _ _ _ (c .before .place-fault .ensures) _ (c .if1 .taken)
+
+read-content-requires : tie.Need-read-content-requires
+read-content-requires c κs = right-place _ _ _ (c .before .place-fault .ensures) (c .if1 .left)
+
+returns-2 : tie.Need-returns-2
+returns-2 c = read-right _ _ _ (c .before .before .place-fault .ensures) (c .before .if1 .left) _ (c .read-content .ensures)
+
+pub value-at-spec : {M : Type 1} → statement M
+value-at-spec = tie.close (tie.spec place-fault-requires returns read-content-requires returns-2)

@@ -1,0 +1,2 @@
+pub mod Cond
+mod Places

@@ -1,4 +1,0 @@
-pub mod Cond
-mod Places
-mod Doubles
-mod Cases
