@@ -29,7 +29,7 @@ use Rattle.content.specs.declared.Read.the-variants as read
 use Rattle.content.specs.declared.Part.{Part}
 use Rattle.content.specs.declared.Part.the-variants as part
 use Rattle.layout.specs.Layout.{offsetSize, offsetAt, headerSize}
-use Rattle.content.specs.Reading.{headerAt, span, parted, partAt, partOf, opaqueType, opaqueScalar, opaqueOf, opaqueAt, containerAt, numberAt, contentAt, placeFault, readAt, headerRead}
+use Rattle.content.specs.Reading.{headerAt, span, parted, partAt, partOf, opaqueType, opaqueScalar, opaqueOf, opaqueAt, containerAt, numberAt, contentAt}
 use Rattle.content.specs.Course.{Within}
 use Rattle.layout.proofs.Cond.{yes, no}
 
@@ -140,33 +140,3 @@ container-is d i e q p = p ∙ ap (λ (u : Kind). containerAt d u i e) q
 
 pub number-is : (w i e : ℕ) {t s : JsonbType} {x y : Number} {r : Read} → t ≡ s → x ≡ y → r ≡ numberAt t w i e x → r ≡ numberAt s w i e y
 number-is w i e {s = s} {x = x} q u p = p ∙ ap (λ (v : JsonbType). numberAt v w i e x) q ∙ ap (numberAt s w i e) u
-
--- any place; f is the fault as the callee gives it
-module _ (d : List ℕ) (i e : ℕ) {f : ℕ} (fe : f ≡ placeFault d i e) where
-  pub read-fault : (t : JsonbType) → (f ≡ 0 → ⊥) → read.Refused f ≡ readAt d t i e
-  unfolding readAt
-  read-fault t z = no (contentAt d t i e) (ne-eqb (placeFault d i e) 0 (λ (q : placeFault d i e ≡ 0). z (fe ∙ q))) (ap read.Refused fe)
-
-  pub header-fault : (k : Kind) → (f ≡ 0 → ⊥) → Refused f ≡ headerRead d k i e
-  unfolding headerRead
-  header-fault k z = no (headerAt d k i e) (ne-eqb (placeFault d i e) 0 (λ (q : placeFault d i e ≡ 0). z (fe ∙ q))) (ap Refused fe)
-
-  module _ (z : f ≡ 0) where
-    pub read-right : (t : JsonbType) {r : Read} → r ≡ contentAt d t i e → r ≡ readAt d t i e
-    unfolding readAt
-    read-right t q = yes _ (eq-eqb (placeFault d i e) 0 (sym fe ∙ z)) q
-
-    pub header-right : (k : Kind) {r : Header} → r ≡ headerAt d k i e → r ≡ headerRead d k i e
-    unfolding headerRead
-    header-right k q = yes _ (eq-eqb (placeFault d i e) 0 (sym fe ∙ z)) q
-
-    pub right-place : Within (length d) i e
-    unfolding placeFault
-    right-place = go (ltb 16777216 (length d)) (ltb (length d) e) (ltb e i) refl refl refl (sym fe ∙ z)
-      where
-        go : (a b c : Bool) → ltb 16777216 (length d) ≡ a → ltb (length d) e ≡ b → ltb e i ≡ c →
-            _≡_ {A = ℕ} (cond a 1 (cond b 3 (cond c 3 0))) 0 → Within (length d) i e
-        go true b c x y w q = absurd (omega arith)
-        go false true c x y w q = absurd (omega arith)
-        go false false true x y w q = absurd (omega arith)
-        go false false false x y w q = record { order = ltb-false e i w; inside = ltb-false (length d) e y; short = ltb-false 16777216 (length d) x }

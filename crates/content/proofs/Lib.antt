@@ -1,2 +1,3 @@
 mod Doubles
 mod Cases
+pub mod Placed

@@ -133,8 +133,12 @@ contentAt d type.Opaque i e = opaqueAt d i e
 unfoldable pub placeFault : List ℕ → ℕ → ℕ → ℕ
 placeFault d i e = cond (ltb 16777216 (length d)) 1 (cond (ltb (length d) e) 3 (cond (ltb e i) 3 0))
 
+-- what is read there, or the fault
+abbrev pub placed : {A : Type 0} → List ℕ → ℕ → ℕ → (ℕ → A) → A → A
+placed d i e refused x = cond (eqb (placeFault d i e) 0) x (refused (placeFault d i e))
+
 unfoldable pub readAt : List ℕ → JsonbType → ℕ → ℕ → Read
-readAt d t i e = cond (eqb (placeFault d i e) 0) (contentAt d t i e) (Refused (placeFault d i e))
+readAt d t i e = placed d i e Refused (contentAt d t i e)
 
 unfoldable pub headerRead : List ℕ → Kind → ℕ → ℕ → Header
-headerRead d k i e = cond (eqb (placeFault d i e) 0) (headerAt d k i e) (header.Refused (placeFault d i e))
+headerRead d k i e = placed d i e header.Refused (headerAt d k i e)

@@ -211,7 +211,7 @@ fn read_content(doc: &[u8], t: JsonbType, at: usize, end: usize) -> Read
 }
 
 // What is wrong with a place and an end in a document: 1, 3, or 0 for nothing.
-fn place_fault(doc: &[u8], at: usize, end: usize) -> u8
+pub fn place_fault(doc: &[u8], at: usize, end: usize) -> u8
     ensures { λ r. ⌜ r ≡ placeFault (now (doc .entry)) at end ⌝ }
 {
     if 16777216 < doc.len() {

@@ -20,7 +20,13 @@ use Rattle.jsonb.specs.Said.{Said, says, nothing, refuses}
 use Rattle.jsonb.specs.Views.{matches, names, gated}
 use Rattle.jsonb.specs.Steps.{isOpen, after}
 use Rattle.jsonb.specs.Course.{gateOf, Whole}
-use Rattle.jsonb.proofs.Places.{size-two}
+use Rattle.layout.specs.Layout.{valuePlace, keyPlace, keyEntry}
+use Rattle.layout.proofs.Inside.{size-two, value-inside, key-inside}
+use Rattle.content.specs.Course.{Within}
+use Rattle.content.proofs.Placed.{placed-within}
+use Rattle.content.specs.declared.Read.the-variants as read
+use Rattle.content.specs.declared.Part.the-variants as part
+use Rattle.entry.specs.Entries.{endOf, valueEnd, entryAt, entryRead, keyEnd, keyEntryAt, keyRead}
 
 -- a header that is whole
 record Headed (k : Kind) (i e n s : ℕ) : Type 0 where
@@ -158,3 +164,17 @@ module _ (d : List ℕ) (v : View) (asked : Bool) (i : ℕ) {g : Gate} (ge : g �
         header = h .header;
         below = leb-false _ _ (facts .3);
       }
+
+-- in a whole container every entry below the count stands, so that nothing is in the way of reading it
+module _ (d : List ℕ) (v : View) (i : ℕ) (w : Whole d v i) where
+  pub whole-entry : entryRead d v i ≡ entryAt d v i
+  unfolding entryRead
+  whole-entry =
+      placed-within d (valueEnd v i) (endOf v) read.Refused
+      (record { order = omega (arith, value-inside (v .kind) (v .count) i (w .below), w .header); inside = w .inside; short = w .short })
+
+  pub whole-key : keyRead d v i ≡ keyEntryAt d v i
+  unfolding keyRead
+  whole-key =
+      placed-within d (keyEnd v i) (endOf v) part.Refused
+      (record { order = omega (arith, key-inside (v .kind) (v .count) i (w .below), w .header); inside = w .inside; short = w .short })

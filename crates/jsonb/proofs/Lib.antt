@@ -1,3 +1,2 @@
-pub mod Places
 mod Cases
 pub mod Gates

@@ -5,7 +5,7 @@ use mathlib.Core.Bool.{Bool, cond}
 use mathlib.Core.List.{List}
 use lib.Dec.{ltb, leb}
 use lib.ListN.{length}
-use Rattle.layout.specs.Layout.{offsetSize, headerSize}
+use Rattle.layout.specs.Layout.{headerSize}
 use Rattle.value.specs.declared.View.{View}
 use Rattle.jsonb.specs.Views.{matches}
 use Rattle.jsonb.specs.declared.gate.Gate.{Gate}
@@ -22,10 +22,3 @@ pub record Whole (d : List ℕ) (v : View) (i : ℕ) : Type 0 where
   pub inside : v .start + v .size ≤ length d
   pub header : headerSize (v .kind) (v .count) ≤ v .size
   pub below : i < v .count
-
--- a place past an entry's type byte, with the entry within the container
-pub record EntryBody (d : List ℕ) (v : View) (body : ℕ) : Type 0 where
-  pub short : length d ≤ 16777216
-  pub inside : v .start + v .size ≤ length d
-  pub fits : body + offsetSize (v .kind) ≤ v .start + v .size
-  pub after : v .start ≤ body

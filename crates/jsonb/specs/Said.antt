@@ -6,6 +6,8 @@ use Rattle.value.specs.declared.Value.{Value}
 use Rattle.value.specs.declared.Span.{Span}
 use Rattle.content.specs.declared.Read.{Read}
 use Rattle.content.specs.declared.Read.the-variants as read
+use Rattle.content.specs.declared.Part.{Part}
+use Rattle.content.specs.declared.Part.the-variants as part
 use Rattle.jsonb.specs.declared.Found.{Found}
 use Rattle.jsonb.specs.declared.Found.the-variants as found
 use Rattle.jsonb.specs.declared.Key.{Key}
@@ -27,6 +29,10 @@ numberOf (refuses n) = n
 abbrev pub readSaid : Read → Said Value
 readSaid (read.Value x) = says x
 readSaid (read.Refused n) = refuses n
+
+abbrev pub partSaid : Part → Said Span
+partSaid (part.Bytes s) = says s
+partSaid (part.Refused n) = refuses n
 
 abbrev pub foundSaid : Found → Said Value
 foundSaid (found.Value x) = says x

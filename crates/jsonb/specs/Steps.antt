@@ -9,8 +9,9 @@ use lib.ListN.{length}
 use Rattle.value.specs.declared.View.{View}
 use Rattle.value.specs.declared.Span.{Span}
 use Rattle.value.specs.declared.Value.{Value}
-use Rattle.jsonb.specs.Said.{Said, says, nothing, refuses, readSaid}
-use Rattle.jsonb.specs.Views.{matches, gated, entryAt, keyEntryAt}
+use Rattle.entry.specs.Entries.{entryAt, keyEntryAt}
+use Rattle.jsonb.specs.Said.{Said, says, nothing, refuses, readSaid, partSaid}
+use Rattle.jsonb.specs.Views.{matches, gated}
 use Rattle.jsonb.specs.declared.steps.Member.{Member}
 use Rattle.jsonb.specs.declared.steps.Member.the-variants as member
 
@@ -43,7 +44,7 @@ unfoldable pub elementItem : List ℕ → View → ℕ → Said Value
 elementItem d v i = gated d v (not (v .kind .object)) i (readSaid (entryAt d v i))
 
 unfoldable pub keyItem : List ℕ → View → ℕ → Said Span
-keyItem d v i = gated d v (v .kind .object) i (keyEntryAt d v i)
+keyItem d v i = gated d v (v .kind .object) i (partSaid (keyEntryAt d v i))
 
 unfoldable pub memberItem : List ℕ → View → ℕ → Said (Span × Value)
-memberItem d v i = gated d v (v .kind .object) i (memberOf (keyEntryAt d v i) (readSaid (entryAt d v i)))
+memberItem d v i = gated d v (v .kind .object) i (memberOf (partSaid (keyEntryAt d v i)) (readSaid (entryAt d v i)))

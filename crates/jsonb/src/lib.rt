@@ -1,12 +1,9 @@
 // MySQL's binary JSON: the root, containers by their views, elements, keys and members.
-mod entry;
 mod gate;
 mod root;
 mod steps;
+mod views;
 
-pub use entry::elem_at;
-pub use entry::element_count;
-pub use entry::key_at;
 pub use root::deserialize;
 pub use steps::Element;
 pub use steps::Elements;
@@ -17,6 +14,9 @@ pub use steps::MemberStep;
 pub use steps::Members;
 use value::Span;
 use value::Value;
+pub use views::elem_at;
+pub use views::element_count;
+pub use views::key_at;
 
 // An element: a value, nothing at or past the count, or a refusal.
 pub enum Found {

@@ -1,21 +1,20 @@
 // Iteration over a container: a place by value, and a step that gives the item and the place that follows.
 use super::Found;
 use super::Key;
-use super::entry::found_of;
-use super::entry::read_entry;
-use super::entry::read_key;
 use super::gate::Gate;
 use super::gate::gate_at;
+use super::views::found_of;
+use super::views::key_of;
+use content::Part;
 use content::Read;
 use value::Span;
 use value::Value;
 use value::View;
 ghost use mathlib.Core.Path.{_≡_};
-ghost use mathlib.Core.Bool.{true, not};
-ghost use Rattle.jsonb.specs.Said.{readSaid, foundSaid, keySaid};
-ghost use Rattle.jsonb.specs.Views.{entryAt, keyEntryAt};
+ghost use mathlib.Core.Bool.{not};
+ghost use Rattle.entry.specs.Entries.{entryRead, keyRead};
+ghost use Rattle.jsonb.specs.Said.{readSaid, partSaid, foundSaid, keySaid};
 ghost use Rattle.jsonb.specs.Steps.{isOpen, after, memberSaid, with-value, memberOf, elementItem, keyItem, memberItem};
-ghost use Rattle.jsonb.specs.Course.{Whole};
 
 // A place in an iteration over the elements of an array.
 pub struct Elements {
@@ -67,7 +66,7 @@ impl Elements {
         let k = v.kind;
         let i = self.at;
         match gate_at(doc, v, !k.object, i) {
-            Gate::Open => element_step(found_of(read_entry(doc, v, i)), v, i + 1),
+            Gate::Open => element_step(found_of(entry::read_entry(doc, v, i)), v, i + 1),
             Gate::Nothing => element_step(Found::Nothing, v, i),
             Gate::Refused(n) => element_step(Found::Refused(n), v, i),
         }
@@ -93,7 +92,7 @@ impl Keys {
         let k = v.kind;
         let i = self.at;
         match gate_at(doc, v, k.object, i) {
-            Gate::Open => key_step(read_key(doc, v, i), v, i + 1),
+            Gate::Open => key_step(key_of(entry::read_key(doc, v, i)), v, i + 1),
             Gate::Nothing => key_step(Key::Nothing, v, i),
             Gate::Refused(n) => key_step(Key::Refused(n), v, i),
         }
@@ -118,15 +117,13 @@ fn with_value(s: Span, r: Read) -> Member
     }
 }
 
-// Member i of a whole object.
+// Member i.
 fn read_member(doc: &[u8], v: View, i: u32) -> Member
-    requires { ⌜ (Whole (now doc) v i) × (v .kind .object ≡ true) ⌝ }
-    ensures { λ r. ⌜ memberSaid r ≡ memberOf (keyEntryAt (now (doc .entry)) v i) (readSaid (entryAt (now (doc .entry)) v i)) ⌝ }
+    ensures { λ r. ⌜ memberSaid r ≡ memberOf (partSaid (keyRead (now (doc .entry)) v i)) (readSaid (entryRead (now (doc .entry)) v i)) ⌝ }
 {
-    match read_key(doc, v, i) {
-        Key::Key(s) => with_value(s, read_entry(doc, v, i)),
-        Key::Nothing => Member::Nothing,
-        Key::Refused(n) => Member::Refused(n),
+    match entry::read_key(doc, v, i) {
+        Part::Bytes(s) => with_value(s, entry::read_entry(doc, v, i)),
+        Part::Refused(n) => Member::Refused(n),
     }
 }
 

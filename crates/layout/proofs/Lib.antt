@@ -1,2 +1,3 @@
 pub mod Cond
 mod Places
+pub mod Inside

@@ -18,9 +18,6 @@ read-entry-requires c κs = search needs
 with-value-requires : tie.Need-with-value-requires
 with-value-requires c κs = search needs
 
-enum-told : tie.Need-enum-told
-enum-told c = search needs
-
 enum-known-n : tie.Need-enum-known-n
 enum-known-n c = search needs
 
@@ -30,10 +27,7 @@ returns c =
     ∙ member-is _ _ _ (c .before .before .before .before .before .read-key .ensures) (c .before .before .before .s .given .1) (c .before .read-entry .ensures)
 
 returns-2 : tie.Need-returns-2
-returns-2 c = member-is _ _ _ (c .before .before .read-key .ensures) (c .enum-told .given .1) refl
-
-returns-3 : tie.Need-returns-3
-returns-3 c = member-is _ _ _ (c .before .before .before .read-key .ensures) (c .before .n .given .1) refl
+returns-2 c = member-is _ _ _ (c .before .before .before .read-key .ensures) (c .before .n .given .1) refl
 
 pub read-member-spec : {M : Type 1} → statement M
 read-member-spec =
@@ -43,8 +37,6 @@ read-member-spec =
     enum-known-s
     read-entry-requires
     with-value-requires
-    enum-told
     enum-known-n
     returns
-    returns-2
-    returns-3)
+    returns-2)

@@ -4,7 +4,7 @@ use mathlib.Core.Path.{ap, _∙_}
 use native.Mathlib.Omega.{arith}
 use Rattle.jsonb.specs.Said.{readSaid, foundSaid}
 use Rattle.jsonb.specs.Steps.{elementItem}
-use Rattle.jsonb.proofs.Gates.{stepped, open-whole}
+use Rattle.jsonb.proofs.Gates.{stepped, open-whole, whole-entry}
 use borrow.Author.Needs.{needs}
 use Rattle.jsonb.proofs.steps.Elements.next.Statement.{statement}
 use Rattle.jsonb.proofs.steps.Elements.next.Tie as tie
@@ -16,7 +16,7 @@ enum-told : tie.Need-enum-told
 enum-told c = search needs
 
 read-entry-requires : tie.Need-read-entry-requires
-read-entry-requires c κs = open-whole _ _ _ _ (c .before .before .gate-at .ensures) (c .enum-told .given .1)
+read-entry-requires c κs = search needs
 
 found-of-requires : tie.Need-found-of-requires
 found-of-requires c κs = search needs
@@ -46,7 +46,8 @@ unfolding elementItem
 returns c =
     stepped _ _ _ _ (c .before .before .before .before .before .gate-at .ensures) (c .before .before .before .enum-told .given .1) _
     (ap foundSaid (c .element-step .ensures .0)
-    ∙ c .before .found-of .ensures ∙ ap readSaid (c .before .before .read-entry .ensures)) (c .element-step .ensures .1)
+    ∙ c .before .found-of .ensures
+    ∙ ap readSaid (c .before .before .read-entry .ensures ∙ whole-entry _ _ _ (open-whole _ _ _ _ (c .before .before .before .before .before .gate-at .ensures) (c .before .before .before .enum-told .given .1)))) (c .element-step .ensures .1)
 
 returns-2 : tie.Need-returns-2
 unfolding elementItem

@@ -2,9 +2,9 @@
 -- Assumes nothing.
 use mathlib.Core.Path.{ap, _∙_}
 use native.Mathlib.Omega.{arith}
-use Rattle.jsonb.specs.Said.{keySaid}
+use Rattle.jsonb.specs.Said.{keySaid, partSaid}
 use Rattle.jsonb.specs.Steps.{keyItem}
-use Rattle.jsonb.proofs.Gates.{stepped, open-whole, asked-so}
+use Rattle.jsonb.proofs.Gates.{stepped, open-whole, whole-key}
 use borrow.Author.Needs.{needs}
 use Rattle.jsonb.proofs.steps.Keys.next.Statement.{statement}
 use Rattle.jsonb.proofs.steps.Keys.next.Tie as tie
@@ -16,14 +16,14 @@ enum-told : tie.Need-enum-told
 enum-told c = search needs
 
 read-key-requires : tie.Need-read-key-requires
-read-key-requires c κs = (
-  open-whole _ _ _ _ (c .before .before .gate-at .ensures) (c .enum-told .given .1),
-  asked-so _ _ _ _ (c .before .before .gate-at .ensures) (c .enum-told .given .1),
-)
+read-key-requires c κs = search needs
+
+key-of-requires : tie.Need-key-of-requires
+key-of-requires c κs = search needs
 
 add-key-step : tie.Need-add-key-step
 add-key-step c =
-    let h = open-whole _ _ _ _ (c .before .before .before .gate-at .ensures) (c .before .enum-told .given .1) in
+    let h = open-whole _ _ _ _ (c .before .before .before .before .gate-at .ensures) (c .before .before .enum-told .given .1) in
     omega (arith, h .below)
 
 key-step-requires : tie.Need-key-step-requires
@@ -44,8 +44,10 @@ key-step-requires-3 c κs = search needs
 returns : tie.Need-returns
 unfolding keyItem
 returns c =
-    stepped _ _ _ _ (c .before .before .before .before .gate-at .ensures) (c .before .before .enum-told .given .1) _
-    (ap keySaid (c .key-step .ensures .0) ∙ c .before .read-key .ensures) (c .key-step .ensures .1)
+    stepped _ _ _ _ (c .before .before .before .before .before .gate-at .ensures) (c .before .before .before .enum-told .given .1) _
+    (ap keySaid (c .key-step .ensures .0)
+    ∙ c .before .key-of .ensures
+    ∙ ap partSaid (c .before .before .read-key .ensures ∙ whole-key _ _ _ (open-whole _ _ _ _ (c .before .before .before .before .before .gate-at .ensures) (c .before .before .before .enum-told .given .1)))) (c .key-step .ensures .1)
 
 returns-2 : tie.Need-returns-2
 unfolding keyItem
@@ -66,6 +68,7 @@ next-spec =
     gate-at-requires
     enum-told
     read-key-requires
+    key-of-requires
     add-key-step
     key-step-requires
     enum-told-2

@@ -3,7 +3,8 @@
 use mathlib.Core.Path.{ap, _∙_}
 use native.Mathlib.Omega.{arith}
 use Rattle.jsonb.specs.Steps.{memberItem, memberSaid}
-use Rattle.jsonb.proofs.Gates.{stepped, open-whole, asked-so}
+use Rattle.jsonb.proofs.Cases.{member-whole}
+use Rattle.jsonb.proofs.Gates.{stepped, open-whole}
 use borrow.Author.Needs.{needs}
 use Rattle.jsonb.proofs.steps.Members.next.Statement.{statement}
 use Rattle.jsonb.proofs.steps.Members.next.Tie as tie
@@ -15,10 +16,7 @@ enum-told : tie.Need-enum-told
 enum-told c = search needs
 
 read-member-requires : tie.Need-read-member-requires
-read-member-requires c κs = (
-  open-whole _ _ _ _ (c .before .before .gate-at .ensures) (c .enum-told .given .1),
-  asked-so _ _ _ _ (c .before .before .gate-at .ensures) (c .enum-told .given .1),
-)
+read-member-requires c κs = search needs
 
 add-member-step : tie.Need-add-member-step
 add-member-step c =
@@ -44,7 +42,8 @@ returns : tie.Need-returns
 unfolding memberItem
 returns c =
     stepped _ _ _ _ (c .before .before .before .before .gate-at .ensures) (c .before .before .enum-told .given .1) _
-    (ap memberSaid (c .member-step .ensures .0) ∙ c .before .read-member .ensures) (c .member-step .ensures .1)
+    (ap memberSaid (c .member-step .ensures .0) ∙ c .before .read-member .ensures
+    ∙ member-whole _ _ _ (open-whole _ _ _ _ (c .before .before .before .before .gate-at .ensures) (c .before .before .enum-told .given .1))) (c .member-step .ensures .1)
 
 returns-2 : tie.Need-returns-2
 unfolding memberItem

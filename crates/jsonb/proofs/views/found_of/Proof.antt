@@ -3,8 +3,8 @@
 use mathlib.Core.Path.{sym, ap}
 use Rattle.jsonb.specs.Said.{readSaid}
 use borrow.Author.Needs.{needs}
-use Rattle.jsonb.proofs.entry.found_of.Statement.{statement}
-use Rattle.jsonb.proofs.entry.found_of.Tie as tie
+use Rattle.jsonb.proofs.views.found_of.Statement.{statement}
+use Rattle.jsonb.proofs.views.found_of.Tie as tie
 
 enum-known-r : tie.Need-enum-known-r
 enum-known-r c = search needs

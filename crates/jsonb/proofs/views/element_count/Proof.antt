@@ -5,8 +5,8 @@ use borrow.Author.Tests.{lt-ltb, le-ltb}
 use Rattle.jsonb.specs.Views.{countAt}
 use Rattle.layout.proofs.Cond.{yes, no}
 use borrow.Author.Needs.{needs}
-use Rattle.jsonb.proofs.entry.element_count.Statement.{statement}
-use Rattle.jsonb.proofs.entry.element_count.Tie as tie
+use Rattle.jsonb.proofs.views.element_count.Statement.{statement}
+use Rattle.jsonb.proofs.views.element_count.Tie as tie
 
 returns : tie.Need-returns
 unfolding countAt

@@ -1,9 +1,9 @@
 -- The offset is tested against the end of its entry and that of the container, as the definition does.
 -- Assumes nothing.
-use Rattle.jsonb.proofs.Cases.{pointed-low, pointed-high, pointed-read}
+use Rattle.entry.proofs.Cases.{pointed-low, pointed-high, pointed-read}
 use borrow.Author.Needs.{needs}
-use Rattle.jsonb.proofs.entry.read_pointed.Statement.{statement}
-use Rattle.jsonb.proofs.entry.read_pointed.Tie as tie
+use Rattle.entry.proofs.read_pointed.Statement.{statement}
+use Rattle.entry.proofs.read_pointed.Tie as tie
 
 cast-start : tie.Need-cast-start
 cast-start c = search needs

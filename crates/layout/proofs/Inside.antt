@@ -1,15 +1,11 @@
 -- Entries lie within the header, once over the offset size.
 -- Assumes nothing.
-use mathlib.Core.Path.{_≡_}
 use mathlib.Core.Bool.{Bool, true, false, cond}
-use mathlib.Core.List.{List}
 use Prim.Native.Nat.{ℕ, suc, _+_, _*_, _≤_, _<_}
 use native.Mathlib.Omega.{arith}
 use native.Mathlib.Nat.{mul-le-mul-right, suc-mul}
-use Rattle.layout.specs.Layout.{offsetSize, valuePlace, headerSize}
+use Rattle.layout.specs.Layout.{offsetSize, keyEntry, keyPlace, valuePlace, headerSize}
 use Rattle.layout.specs.declared.Kind.{Kind}
-use Rattle.value.specs.declared.View.{View}
-use Rattle.jsonb.specs.Course.{Whole, EntryBody}
 
 -- one entry more, of w bytes
 step : (w i n : ℕ) → i < n → i * w + w ≤ n * w
@@ -20,14 +16,9 @@ module _ (k : Kind) (n i : ℕ) (h : i < n) where
   unfolding valuePlace headerSize
   value-inside = omega (arith, step (offsetSize k + 1) i n h)
 
--- past the type byte of an entry of a whole container; p is the entry's place as the callee gives it
-pub entry-body : (d : List ℕ) (v : View) (i : ℕ) {p : ℕ} → Whole d v i → p ≡ valuePlace (v .kind) (v .count) i → EntryBody d v (v .start + p + 1)
-entry-body d v i w pe = record {
-  short = w .short;
-  inside = w .inside;
-  fits = omega (arith, value-inside (v .kind) (v .count) i (w .below), w .header);
-  after = omega arith;
-}
+  pub key-inside : keyPlace k i + keyEntry k ≤ headerSize k n
+  unfolding keyPlace valuePlace headerSize
+  key-inside = omega (arith, step (keyEntry k) i n h)
 
 module _ (k : Kind) where
   size-by : (b : Bool) → 2 ≤ cond b 4 2

@@ -1,9 +1,9 @@
 -- A value that stands in the entry ends with it; any other is read at its offset.
 -- Assumes nothing.
-use Rattle.jsonb.proofs.Cases.{typed-inlined, typed-pointed}
+use Rattle.entry.proofs.Cases.{typed-inlined, typed-pointed}
 use borrow.Author.Needs.{needs}
-use Rattle.jsonb.proofs.entry.read_typed.Statement.{statement}
-use Rattle.jsonb.proofs.entry.read_typed.Tie as tie
+use Rattle.entry.proofs.read_typed.Statement.{statement}
+use Rattle.entry.proofs.read_typed.Tie as tie
 
 is-inlined-requires : tie.Need-is-inlined-requires
 is-inlined-requires c κs = search needs

@@ -1,0 +1,127 @@
+// The entries of a container: the value and the key at a position, by the container's view.
+use codes::JsonbType;
+use codes::TypeOf;
+use content::Part;
+use content::Read;
+use value::Span;
+use value::View;
+ghost use mathlib.Core.Path.{_≡_};
+ghost use Prim.Native.Nat.{_+_};
+ghost use lib.ListN.{length, getD};
+ghost use Rattle.codes.specs.Types.{typeOf};
+ghost use Rattle.layout.specs.Layout.{offsetSize};
+ghost use Rattle.content.specs.Course.{Within};
+ghost use Rattle.entry.specs.Entries.{endOf, isInlined, pointedAt, typedEntry, entryOf, keyOf, entryRead, keyRead};
+
+// Whether values of a type stand in their entry.
+fn is_inlined(t: JsonbType, large: bool) -> bool
+    ensures { λ r. ⌜ r ≡ isInlined t large ⌝ }
+{
+    match t {
+        JsonbType::SmallObject => false,
+        JsonbType::LargeObject => false,
+        JsonbType::SmallArray => false,
+        JsonbType::LargeArray => false,
+        JsonbType::Literal => true,
+        JsonbType::Int16 => true,
+        JsonbType::Uint16 => true,
+        JsonbType::Int32 => large,
+        JsonbType::Uint32 => large,
+        JsonbType::Int64 => false,
+        JsonbType::Uint64 => false,
+        JsonbType::Double => false,
+        JsonbType::String => false,
+        JsonbType::Opaque => false,
+    }
+}
+
+// The value at the offset that stands past an entry's type byte.
+fn read_pointed(doc: &[u8], v: View, t: JsonbType, body: usize) -> Read
+    requires { ⌜ Within (length (now doc)) (body + offsetSize (v .kind)) (endOf v) ⌝ }
+    ensures { λ r. ⌜ r ≡ pointedAt (now (doc .entry)) v t body ⌝ }
+{
+    let k = v.kind;
+    let start = v.start as usize;
+    let end = start + v.size as usize;
+    let at = start + layout::offset_at(doc, k, body, end) as usize;
+    if at < body + k.offset_size() {
+        return Read::Refused(refusal::POINTER);
+    }
+    if end < at {
+        return Read::Refused(refusal::POINTER);
+    }
+    content::value_at(doc, t, at, end)
+}
+
+// The value of a type in an entry, or at its offset.
+fn read_typed(doc: &[u8], v: View, t: JsonbType, body: usize) -> Read
+    requires { ⌜ Within (length (now doc)) (body + offsetSize (v .kind)) (endOf v) ⌝ }
+    ensures { λ r. ⌜ r ≡ typedEntry (now (doc .entry)) v t body ⌝ }
+{
+    let k = v.kind;
+    if is_inlined(t, k.large) {
+        return content::value_at(doc, t, body, body + k.offset_size());
+    }
+    read_pointed(doc, v, t, body)
+}
+
+// The value of the entry at a place.
+fn read_at(doc: &[u8], v: View, at: usize) -> Read
+    requires { ⌜ Within (length (now doc)) (at + 1 + offsetSize (v .kind)) (endOf v) ⌝ }
+    ensures { λ r. ⌜ r ≡ entryOf (now (doc .entry)) v (typeOf (getD (now (doc .entry)) at 0)) (at + 1) ⌝ }
+{
+    match JsonbType::of(doc[at]) {
+        TypeOf::Known(t) => read_typed(doc, v, t, at + 1),
+        TypeOf::Refused(n) => Read::Refused(n),
+    }
+}
+
+// The value of entry i.
+pub fn read_entry(doc: &[u8], v: View, i: u32) -> Read
+    ensures { λ r. ⌜ r ≡ entryRead (now (doc .entry)) v i ⌝ }
+{
+    let k = v.kind;
+    let start = v.start as usize;
+    let at = start + k.value_place(v.count, i);
+    let fault = content::place_fault(doc, at + 1 + k.offset_size(), start + v.size as usize);
+    if fault != 0 {
+        return Read::Refused(fault);
+    }
+    read_at(doc, v, at)
+}
+
+// The key of an entry at a place.
+fn key_at_place(doc: &[u8], v: View, place: usize) -> Part
+    requires { ⌜ Within (length (now doc)) place (endOf v) ⌝ }
+    ensures { λ r. ⌜ r ≡ keyOf (now (doc .entry)) v place ⌝ }
+{
+    let k = v.kind;
+    let start = v.start as usize;
+    let end = start + v.size as usize;
+    let offset = layout::offset_at(doc, k, place, end) as usize;
+    let len = raw::u16_at(doc, place + k.offset_size(), end) as usize;
+    if offset < k.header_size(v.count) {
+        return Part::Refused(refusal::KEY);
+    }
+    if (v.size as usize) < offset + len {
+        return Part::Refused(refusal::KEY);
+    }
+    Part::Bytes(Span {
+        start: (start + offset) as u32,
+        len: len as u32,
+    })
+}
+
+// The key of entry i.
+pub fn read_key(doc: &[u8], v: View, i: u32) -> Part
+    ensures { λ r. ⌜ r ≡ keyRead (now (doc .entry)) v i ⌝ }
+{
+    let k = v.kind;
+    let start = v.start as usize;
+    let place = start + k.key_place(i);
+    let fault = content::place_fault(doc, place + k.key_entry(), start + v.size as usize);
+    if fault != 0 {
+        return Part::Refused(fault);
+    }
+    key_at_place(doc, v, place)
+}

@@ -1,0 +1,67 @@
+// A container by its view: elements, keys and the count.
+use super::Count;
+use super::Found;
+use super::Key;
+use super::gate::Gate;
+use super::gate::gate_at;
+use super::gate::is_whole;
+use content::Part;
+use content::Read;
+use value::View;
+ghost use mathlib.Core.Path.{_≡_};
+ghost use Rattle.jsonb.specs.Said.{readSaid, partSaid, foundSaid, keySaid, countSaid};
+ghost use Rattle.jsonb.specs.Views.{elemAt, keyAt, countAt};
+
+pub(crate) fn found_of(r: Read) -> Found
+    ensures { λ f. ⌜ foundSaid f ≡ readSaid r ⌝ }
+{
+    match r {
+        Read::Value(x) => Found::Value(x),
+        Read::Refused(n) => Found::Refused(n),
+    }
+}
+
+// The element, or the member's value, at a position.
+pub fn elem_at(doc: &[u8], v: View, pos: u32) -> Found
+    ensures { λ r. ⌜ foundSaid r ≡ elemAt (now (doc .entry)) v pos ⌝ }
+{
+    match gate_at(doc, v, true, pos) {
+        Gate::Open => found_of(entry::read_entry(doc, v, pos)),
+        Gate::Nothing => Found::Nothing,
+        Gate::Refused(n) => Found::Refused(n),
+    }
+}
+
+pub(crate) fn key_of(p: Part) -> Key
+    ensures { λ k. ⌜ keySaid k ≡ partSaid p ⌝ }
+{
+    match p {
+        Part::Bytes(s) => Key::Key(s),
+        Part::Refused(n) => Key::Refused(n),
+    }
+}
+
+// The key at a position.
+pub fn key_at(doc: &[u8], v: View, pos: u32) -> Key
+    ensures { λ r. ⌜ keySaid r ≡ keyAt (now (doc .entry)) v pos ⌝ }
+{
+    let k = v.kind;
+    match gate_at(doc, v, k.object, pos) {
+        Gate::Open => key_of(entry::read_key(doc, v, pos)),
+        Gate::Nothing => Key::Nothing,
+        Gate::Refused(n) => Key::Refused(n),
+    }
+}
+
+// How many elements or members a view has.
+pub fn element_count(doc: &[u8], v: View) -> Count
+    ensures { λ r. ⌜ countSaid r ≡ countAt (now (doc .entry)) v ⌝ }
+{
+    if 16777216 < doc.len() {
+        return Count::Refused(refusal::DOCUMENT);
+    }
+    if is_whole(doc, v) {
+        return Count::Count(v.count);
+    }
+    Count::Refused(refusal::VIEW)
+}
