@@ -42,9 +42,11 @@ use Rattle.content.specs.declared.Read.the-variants as read
 use Rattle.content.specs.declared.Header.the-variants as header
 use Rattle.content.specs.declared.Part.{Part}
 use Rattle.content.specs.declared.Part.the-variants as part
-use Rattle.jsonb.specs.Said.{Said, says, nothing, refuses, readSaid}
-use Rattle.jsonb.specs.Views.{typedAt, rootRead, matches, gated, endOf, isInlined, placeAt, pointedAt, typedEntry, entryOf, entryAt, elemAt}
-use Rattle.jsonb.specs.Views.{keyOffset, keyLength, keyEntryAt, keyAt}
+use Rattle.jsonb.specs.Said.{Said, says, nothing, refuses, readSaid, partSaid}
+use Rattle.entry.specs.Entries.{endOf, isInlined, placeAt, pointedAt, typedEntry, entryOf, entryAt}
+use Rattle.jsonb.specs.Views.{typedAt, rootRead, matches, gated, elemAt}
+use Rattle.entry.specs.Entries.{keyOffset, keyLength, keyOf, keyPlaceAt, keyEntryAt}
+use Rattle.jsonb.specs.Views.{keyAt}
 use Rattle.jsonb_laws.specs.Within.{Spans, ScalarInside, Inside}
 
 -- ---- what is read, where it is not refused
@@ -324,17 +326,17 @@ module _ (d : List ℕ) (v : View) where
     KeyInside s = Spans (v .start + headerSize (v .kind) (v .count)) (endOf v) s
 
     abbrev o : ℕ
-    o = keyOffset d v i
+    o = keyOffset d v (keyPlaceAt v i)
 
     abbrev l : ℕ
-    l = keyLength d v i
+    l = keyLength d v (keyPlaceAt v i)
 
-    key-in : SaidInside KeyInside (keyEntryAt d v i)
-    unfolding keyEntryAt
+    key-in : SaidInside KeyInside (partSaid (keyEntryAt d v i))
+    unfolding keyEntryAt keyOf
     key-in = go (ltb o (headerSize (v .kind) (v .count))) (ltb (v .size) (o + l)) refl refl
       where
         go : (a b : Bool) → ltb o (headerSize (v .kind) (v .count)) ≡ a → ltb (v .size) (o + l) ≡ b →
-            SaidInside KeyInside (cond a (refuses 5) (cond b (refuses 5) (says (span (v .start + o) l))))
+            SaidInside KeyInside (partSaid (cond a (part.Refused 5) (cond b (part.Refused 5) (part.Bytes (span (v .start + o) l)))))
         go true b p q = tt
         go false true p q = tt
         go false false p q =
@@ -345,4 +347,4 @@ module _ (d : List ℕ) (v : View) where
 
     pub key-inside : (s : Span) → keyAt d v i ≡ says s → Spans (v .start + headerSize (v .kind) (v .count)) (endOf v) s
     unfolding keyAt
-    key-inside s q = subst (SaidInside KeyInside) q (gated-in KeyInside (v .kind .object) i (keyEntryAt d v i) key-in)
+    key-inside s q = subst (SaidInside KeyInside) q (gated-in KeyInside (v .kind .object) i (partSaid (keyEntryAt d v i)) key-in)

@@ -11,8 +11,9 @@ use borrow.Author.Tests.{le-ltb, le-leb, lt-leb, leb-true, leb-false}
 use Rattle.value.specs.declared.View.{View}
 use Rattle.value.specs.declared.Span.{Span}
 use Rattle.value.specs.declared.Value.{Value}
-use Rattle.jsonb.specs.Said.{Said, nothing, refuses, readSaid}
-use Rattle.jsonb.specs.Views.{matches, gated, entryAt, keyEntryAt, elemAt, keyAt}
+use Rattle.jsonb.specs.Said.{Said, nothing, refuses, readSaid, partSaid}
+use Rattle.entry.specs.Entries.{entryAt, keyEntryAt}
+use Rattle.jsonb.specs.Views.{matches, gated, elemAt, keyAt}
 use Rattle.jsonb.specs.Steps.{isOpen, after, memberOf, elementItem, keyItem, memberItem}
 use Rattle.jsonb_laws.specs.Walked.{stepsTo}
 
@@ -40,7 +41,7 @@ member-by false true true false s x = refl
 pub member-item : (d : List ℕ) (v : View) (i : ℕ) → memberItem d v i ≡ memberOf (keyAt d v i) (elemAt d v i)
 unfolding memberItem keyAt elemAt gated
 member-item d v i =
-    member-by (ltb 16777216 (length d)) (v .kind .object) (matches d v) (leb (v .count) i) (keyEntryAt d v i) (readSaid (entryAt d v i))
+    member-by (ltb 16777216 (length d)) (v .kind .object) (matches d v) (leb (v .count) i) (partSaid (keyEntryAt d v i)) (readSaid (entryAt d v i))
 
 -- ---- the places
 pub stays : (d : List ℕ) (v : View) (asked : Bool) (p : ℕ) → isOpen d v asked p ≡ false → after (isOpen d v asked p) p ≡ p

@@ -33,12 +33,13 @@ use Rattle.content.specs.declared.Read.the-variants.{Refused}
 use Rattle.content.specs.declared.Part.{Part}
 use Rattle.value.specs.declared.Span.{Span}
 use Rattle.value.specs.declared.Value.{Value}
-use Rattle.jsonb.specs.Said.{Said, nothing, refuses, readSaid}
-use Rattle.jsonb.specs.Views.{matches, gated, endOf, placeAt, pointedAt, typedEntry, entryOf, entryAt, elemAt, keyEntryAt, keyAt, countAt}
+use Rattle.jsonb.specs.Said.{Said, nothing, refuses, readSaid, partSaid}
+use Rattle.entry.specs.Entries.{endOf, placeAt, pointedAt, typedEntry, entryOf, entryAt, keyOf, keyEntryAt}
+use Rattle.jsonb.specs.Views.{matches, gated, elemAt, keyAt, countAt}
 use Rattle.jsonb.specs.Steps.{memberOf, elementItem, keyItem, memberItem}
 use Rattle.jsonb.specs.Course.{Whole, gateOf}
 use Rattle.jsonb.specs.declared.gate.Gate.the-variants.{Open}
-use Rattle.jsonb.proofs.Places.{value-inside}
+use Rattle.layout.proofs.Inside.{value-inside}
 use Rattle.jsonb.proofs.Gates.{open-whole}
 
 -- ---- up to an end e, at which the documents are not yet different
@@ -112,7 +113,7 @@ take-less a b m e h s = sym (take-take m e a h) ∙ ap (take m) s ∙ take-take 
 -- ---- the entries of a view at whose end the documents are not yet different
 module _ (a b : List ℕ) (v : View) (s : take (endOf v) a ≡ take (endOf v) b) where
   pub key-same : (i : ℕ) → keyEntryAt a v i ≡ keyEntryAt b v i
-  unfolding keyEntryAt
+  unfolding keyEntryAt keyOf
   key-same i =
       let at = v .start + keyPlace (v .kind) i in
       rw (offset-same a b (endOf v) s (v .kind) at, le-same 2 a b (at + offsetSize (v .kind)) (endOf v) s)
@@ -179,7 +180,7 @@ module _ (a b : List ℕ) (v : View) (sa : length a ≤ 16777216) (sb : length b
 
     pub key-at-same : keyAt a v i ≡ keyAt b v i
     unfolding keyAt
-    key-at-same = gated-same (v .kind .object) i (keyEntryAt a v i) (keyEntryAt b v i) (λ l. key-same a b v s i)
+    key-at-same = gated-same (v .kind .object) i (partSaid (keyEntryAt a v i)) (partSaid (keyEntryAt b v i)) (λ l. ap partSaid (key-same a b v s i))
 
     pub element-item-same : elementItem a v i ≡ elementItem b v i
     unfolding elementItem
@@ -187,15 +188,15 @@ module _ (a b : List ℕ) (v : View) (sa : length a ≤ 16777216) (sb : length b
 
     pub key-item-same : keyItem a v i ≡ keyItem b v i
     unfolding keyItem
-    key-item-same = gated-same (v .kind .object) i (keyEntryAt a v i) (keyEntryAt b v i) (λ l. key-same a b v s i)
+    key-item-same = gated-same (v .kind .object) i (partSaid (keyEntryAt a v i)) (partSaid (keyEntryAt b v i)) (λ l. ap partSaid (key-same a b v s i))
 
     abbrev member : List ℕ → Said (Span × Value)
-    member d = memberOf (keyEntryAt d v i) (readSaid (entryAt d v i))
+    member d = memberOf (partSaid (keyEntryAt d v i)) (readSaid (entryAt d v i))
 
     member-same : i < v .count → member a ≡ member b
     member-same l =
-        ap (λ (k : Said Span). memberOf k (readSaid (entryAt a v i))) (key-same a b v s i)
-        ∙ ap (λ (x : Said Value). memberOf (keyEntryAt b v i) x) (said-same l)
+        ap (λ (k : Said Span). memberOf k (readSaid (entryAt a v i))) (ap partSaid (key-same a b v s i))
+        ∙ ap (λ (x : Said Value). memberOf (partSaid (keyEntryAt b v i)) x) (said-same l)
 
     pub member-item-same : memberItem a v i ≡ memberItem b v i
     unfolding memberItem
