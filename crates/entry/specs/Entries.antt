@@ -94,3 +94,14 @@ entryRead d v i = placed d (valueEnd v i) (endOf v) read.Refused (entryAt d v i)
 
 unfoldable pub keyRead : List ℕ → View → ℕ → Part
 keyRead d v i = placed d (keyEnd v i) (endOf v) part.Refused (keyEntryAt d v i)
+
+-- ---- where the value of entry i starts: in the entry past its type byte, or at its offset
+unfoldable pub startOf : List ℕ → View → ℕ → JsonbType → ℕ
+startOf d v i t = cond (isInlined t (v .kind .large)) (placeAt v i + 1) (v .start + offsetAt d (v .kind) (placeAt v i + 1) (endOf v))
+
+abbrev pub typedStart : List ℕ → View → ℕ → TypeOf → ℕ
+typedStart d v i (type-of.Known t) = startOf d v i t
+typedStart d v i (type-of.Refused n) = 0
+
+unfoldable pub valueStart : List ℕ → View → ℕ → ℕ
+valueStart d v i = typedStart d v i (typeOf (getD d (placeAt v i) 0))

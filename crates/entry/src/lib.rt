@@ -6,12 +6,12 @@ use content::Read;
 use value::Span;
 use value::View;
 ghost use mathlib.Core.Path.{_≡_};
-ghost use Prim.Native.Nat.{_+_};
+ghost use Prim.Native.Nat.{_+_, _<_};
 ghost use lib.ListN.{length, getD};
 ghost use Rattle.codes.specs.Types.{typeOf};
 ghost use Rattle.layout.specs.Layout.{offsetSize};
 ghost use Rattle.content.specs.Course.{Within};
-ghost use Rattle.entry.specs.Entries.{endOf, isInlined, pointedAt, typedEntry, entryOf, keyOf, entryRead, keyRead};
+ghost use Rattle.entry.specs.Entries.{endOf, isInlined, placeAt, pointedAt, typedEntry, entryOf, keyOf, keyPlaceAt, entryRead, keyRead, startOf, valueStart};
 
 // Whether values of a type stand in their entry.
 fn is_inlined(t: JsonbType, large: bool) -> bool
@@ -124,4 +124,54 @@ pub fn read_key(doc: &[u8], v: View, i: u32) -> Part
         return Part::Refused(fault);
     }
     key_at_place(doc, v, place)
+}
+
+// Where value entry i stands.
+pub fn value_place(v: View, i: u32) -> usize
+    ensures { λ r. ⌜ r ≡ placeAt v i ⌝ }
+    ensures { λ r. ⌜ r < 73014444032 ⌝ }
+{
+    let k = v.kind;
+    v.start as usize + k.value_place(v.count, i)
+}
+
+// Where key entry i stands.
+pub fn key_place(v: View, i: u32) -> usize
+    ensures { λ r. ⌜ r ≡ keyPlaceAt v i ⌝ }
+    ensures { λ r. ⌜ r < 73014444032 ⌝ }
+{
+    let k = v.kind;
+    v.start as usize + k.key_place(i)
+}
+
+// Where a value of a type in entry i starts: in the entry, or at its offset.
+fn typed_start(doc: &[u8], v: View, i: u32, t: JsonbType) -> usize
+    ensures { λ r. ⌜ r ≡ startOf (now (doc .entry)) v i t ⌝ }
+{
+    let k = v.kind;
+    let start = v.start as usize;
+    let body = value_place(v, i) + 1;
+    if is_inlined(t, k.large) {
+        return body;
+    }
+    start + layout::offset_at(doc, k, body, start + v.size as usize) as usize
+}
+
+fn type_at(doc: &[u8], at: usize) -> TypeOf
+    ensures { λ r. ⌜ r ≡ typeOf (getD (now (doc .entry)) at 0) ⌝ }
+{
+    if doc.len() <= at {
+        return JsonbType::of(0);
+    }
+    JsonbType::of(doc[at])
+}
+
+// Where the value of entry i starts.
+pub fn value_start(doc: &[u8], v: View, i: u32) -> usize
+    ensures { λ r. ⌜ r ≡ valueStart (now (doc .entry)) v i ⌝ }
+{
+    match type_at(doc, value_place(v, i)) {
+        TypeOf::Known(t) => typed_start(doc, v, i, t),
+        TypeOf::Refused(_) => 0,
+    }
 }
