@@ -1,4 +1,4 @@
--- Literals: 0 null, 1 true, 2 false; any other byte is 7.
+-- Literals (json_binary.h of MySQL; document 01, 'Container rules'): 0 null, 1 true, 2 false; any other byte is 7.
 -- Assumes nothing.
 use Prim.Native.Nat.{ℕ}
 use mathlib.Core.List.{List, [], _∷_}

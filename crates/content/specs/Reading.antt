@@ -1,4 +1,4 @@
--- What stands at a place i of the document, up to an end e, which is that of the enclosing container (json_binary.h of MySQL; document 01, 'Container
+-- What stands at a place i of the document, up to an end e, which is that of the enclosing container or entry (json_binary.h of MySQL; document 01, 'Container
 -- rules' and the order of its refusals).
 -- Assumes nothing.
 use Prim.Native.Nat.{ℕ, _+_, _*_, _-_}

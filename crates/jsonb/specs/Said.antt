@@ -1,5 +1,5 @@
--- What an answer of this crate says: something, nothing (which is no refusal), or a refusal by document 01's number. Each enum of answers has a
--- definition that takes every case there, and the promises are equations of what is said.
+-- What an answer says: something, nothing (which is no refusal), or a refusal by document 01's number. Each enum of answers has a definition that takes
+-- every case there.
 -- Assumes nothing.
 use Prim.Native.Nat.{ℕ}
 use Rattle.value.specs.declared.Value.{Value}
@@ -19,12 +19,6 @@ pub data Said (A : Type 0) : Type 0 where
   says : A → Said A
   nothing : Said A
   refuses : ℕ → Said A
-
--- document 01's number, 0 where there is no refusal
-abbrev pub numberOf : {A : Type 0} → Said A → ℕ
-numberOf (says x) = 0
-numberOf nothing = 0
-numberOf (refuses n) = n
 
 abbrev pub readSaid : Read → Said Value
 readSaid (read.Value x) = says x

@@ -16,6 +16,8 @@ pub use steps::Keys;
 pub use steps::Member;
 pub use steps::MemberStep;
 pub use steps::Members;
+pub use value::CountOf;
+pub use value::FieldOf;
 pub use value::Number;
 pub use value::Scalar;
 pub use value::Span;

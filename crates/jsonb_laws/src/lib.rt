@@ -1,1 +1,1 @@
-// Laws of binary JSON that rest on the definitions of the crates value and jsonb alone: see proofs/. There is no code here.
+// Laws of binary JSON that rest on the definitions of jsonb and of the crates below it: see proofs/. There is no code here.

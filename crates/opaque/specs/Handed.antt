@@ -4,11 +4,34 @@
 use Prim.Native.Nat.{ℕ, _+_}
 use mathlib.Core.Bool.{Bool, cond}
 use mathlib.Core.List.{List}
-use lib.Dec.{ltb}
+use lib.Dec.{ltb, eqb}
 use lib.ListN.{length, take, drop}
 use Rattle.decimal.specs.Read.{refused, readPacked}
 use Rattle.decimal.specs.declared.Answer.{Answer}
+use Rattle.codes.specs.Columns.{codeOf}
+use Rattle.codes.specs.declared.columns.ColumnType.{ColumnType}
 use Rattle.value.specs.declared.Span.{Span}
+use Rattle.value.specs.declared.Scalar.{Scalar}
+use Rattle.value.specs.declared.Scalar.the-variants as scalar
+use Rattle.value.specs.declared.Value.{Value}
+use Rattle.value.specs.declared.Value.the-variants as value
+use Rattle.opaque.specs.declared.DecimalPart.{DecimalPart}
+use Rattle.opaque.specs.declared.DecimalPart.the-variants.{Bytes, Nothing}
+
+-- the packed bytes of an opaque value whose column type is NEWDECIMAL, 246 in MySQL; nothing for any other value
+unfoldable pub columnPart : ColumnType → Span → DecimalPart
+columnPart t p = cond (eqb (codeOf t) 246) (Bytes p) Nothing
+
+abbrev pub scalarPart : Scalar → DecimalPart
+scalarPart scalar.Null = Nothing
+scalarPart (scalar.Boolean b) = Nothing
+scalarPart (scalar.Number x) = Nothing
+scalarPart (scalar.String s) = Nothing
+scalarPart (scalar.Opaque t p) = columnPart t p
+
+abbrev pub decimalPart : Value → DecimalPart
+decimalPart (value.Scalar t s) = scalarPart s
+decimalPart (value.Container v) = Nothing
 
 unfoldable pub opaqueDecimal : List ℕ → Span → Bool → Answer
 opaqueDecimal d p keep =
