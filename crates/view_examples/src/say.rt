@@ -1,0 +1,310 @@
+// The words of an answer: a value as its numbers, bytes in hexadecimal digits, a refusal by its number.
+use decimal::Answer;
+use decimal::Counted;
+use decimal::Decimal;
+use jsonb::Count;
+use jsonb::Found;
+use jsonb::JsonbType;
+use jsonb::Key;
+use jsonb::Kind;
+use jsonb::Member;
+use jsonb::Number;
+use jsonb::Read;
+use jsonb::Scalar;
+use jsonb::Span;
+use jsonb::Value;
+use jsonb::View;
+use libc::STDOUT_FILENO;
+use raw::Length;
+ghost use mathlib.Core.Path.{_≡_};
+ghost use lib.IntN.{natAbs};
+
+pub(crate) fn say(text: &[u8]) {
+    io::write_all(STDOUT_FILENO, text);
+}
+
+pub(crate) fn say_number(n: u64) {
+    io::print_decimal(STDOUT_FILENO, n);
+}
+
+fn say_next(n: u64) {
+    say(b" ");
+    say_number(n);
+}
+
+pub(crate) fn say_refused(n: u8) {
+    say(b"refused ");
+    say_number(n as u64);
+}
+
+fn wide(b: u8) -> u64 {
+    b as u64
+}
+
+fn say_front(text: &[u8], n: usize) {
+    if n <= text.len() {
+        say(&text[..n]);
+    }
+}
+
+fn say_front_hex(bytes: &[u8], n: usize) {
+    if n <= bytes.len() {
+        for i in 0..n {
+            io::print_hex(STDOUT_FILENO, wide(bytes[i]), 2);
+        }
+    }
+}
+
+// Bytes in hexadecimal digits, - for none.
+pub(crate) fn say_hex(bytes: &[u8]) {
+    if bytes.len() == 0 {
+        say(b"-");
+    }
+    say_front_hex(bytes, bytes.len());
+}
+
+fn is_printed(b: u8) -> bool {
+    if b < 32 {
+        return false;
+    }
+    b < 127
+}
+
+fn all_printed(bytes: &[u8]) -> bool {
+    for i in 0..bytes.len() {
+        if !is_printed(bytes[i]) {
+            return false;
+        }
+    }
+    true
+}
+
+// Bytes as text between quotation marks where all are ASCII that prints, else in hexadecimal digits.
+pub(crate) fn say_bytes(bytes: &[u8]) {
+    if all_printed(bytes) {
+        say(b"\"");
+        say(bytes);
+        say(b"\"");
+    } else {
+        say_hex(bytes);
+    }
+}
+
+// ---- values
+
+fn kind_code(k: Kind) -> u64 {
+    if k.object {
+        if k.large {
+            return 1;
+        }
+        return 0;
+    }
+    if k.large {
+        return 3;
+    }
+    2
+}
+
+// Kind, start, count and size.
+pub(crate) fn say_view(v: View) {
+    let k = v.kind;
+    say_number(kind_code(k));
+    say_next(v.start as u64);
+    say_next(v.count as u64);
+    say_next(v.size as u64);
+}
+
+fn say_span(s: Span) {
+    say_next(s.start as u64);
+    say_next(s.len as u64);
+}
+
+// How far a number is from 0.
+fn magnitude(n: i64) -> u64
+    ensures { λ r. ⌜ r ≡ natAbs n ⌝ }
+{
+    if n < 0 {
+        return (-1 - n) as u64 + 1;
+    }
+    n as u64
+}
+
+fn say_int(n: i64) {
+    say(b" int ");
+    if n < 0 {
+        say(b"-");
+    }
+    say_number(magnitude(n));
+}
+
+fn say_bits(n: u64) {
+    say(b" double ");
+    io::print_hex(STDOUT_FILENO, n, 16);
+}
+
+// No double of a document's is a NaN: the bits of these have a case of their own.
+fn say_double(x: f64) {
+    if x != x {
+        say(b" double that is none");
+    } else {
+        say_bits(f64::to_bits(x));
+    }
+}
+
+fn say_number_case(x: Number) {
+    match x {
+        Number::Int(n) => say_int(n),
+        Number::Uint(n) => {
+            say(b" uint ");
+            say_number(n);
+        }
+        Number::Double(d) => say_double(d),
+        Number::Nan(n) => say_bits(n),
+    }
+}
+
+fn say_truth(b: bool) {
+    if b {
+        say(b" true");
+    } else {
+        say(b" false");
+    }
+}
+
+fn say_case(s: Scalar) {
+    match s {
+        Scalar::Null => say(b" null"),
+        Scalar::Boolean(b) => say_truth(b),
+        Scalar::Number(x) => say_number_case(x),
+        Scalar::String(p) => {
+            say(b" string");
+            say_span(p);
+        }
+        Scalar::Opaque(t, p) => {
+            say(b" opaque");
+            say_next(t.code() as u64);
+            say_span(p);
+        }
+    }
+}
+
+fn say_scalar(t: JsonbType, s: Scalar) {
+    say(b"scalar");
+    say_next(t.code() as u64);
+    say_case(s);
+}
+
+fn say_value(x: Value) {
+    match x {
+        Value::Scalar(t, s) => say_scalar(t, s),
+        Value::Container(v) => {
+            say(b"container ");
+            say_view(v);
+        }
+    }
+}
+
+fn say_key_span(s: Span) {
+    say(b"key");
+    say_span(s);
+}
+
+// ---- answers
+
+pub(crate) fn say_read(r: Read) {
+    match r {
+        Read::Value(x) => say_value(x),
+        Read::Refused(n) => say_refused(n),
+    }
+}
+
+pub(crate) fn say_found(f: Found) {
+    match f {
+        Found::Value(x) => say_value(x),
+        Found::Nothing => say(b"nothing"),
+        Found::Refused(n) => say_refused(n),
+    }
+}
+
+pub(crate) fn say_key(k: Key) {
+    match k {
+        Key::Key(s) => say_key_span(s),
+        Key::Nothing => say(b"nothing"),
+        Key::Refused(n) => say_refused(n),
+    }
+}
+
+pub(crate) fn say_member(m: Member) {
+    match m {
+        Member::Member(s, x) => {
+            say_key_span(s);
+            say(b" = ");
+            say_value(x);
+        }
+        Member::Nothing => say(b"nothing"),
+        Member::Refused(n) => say_refused(n),
+    }
+}
+
+pub(crate) fn say_count(c: Count) {
+    match c {
+        Count::Count(n) => say_number(n as u64),
+        Count::Refused(n) => say_refused(n),
+    }
+}
+
+// The length, and the place past the field.
+pub(crate) fn say_length(l: Length) {
+    match l {
+        Length::Field { length, next } => {
+            say_number(length as u64);
+            say(b", and the field ends at ");
+            say_number(next as u64);
+        }
+        Length::Refused(n) => say_refused(n),
+    }
+}
+
+// ---- decimals
+
+fn say_sign(negative: bool) {
+    if negative {
+        say(b" - ");
+    } else {
+        say(b" + ");
+    }
+}
+
+fn say_text(d: Decimal) {
+    let mut text = [0u8; 68];
+    match d.print(&mut text) {
+        Counted::Bytes(n) => say_front(&text, n),
+        Counted::Refused(n) => say_refused(n),
+    }
+}
+
+fn say_written(d: Decimal) {
+    let mut room = [0u8; 32];
+    match d.write_bin(&mut room) {
+        Counted::Bytes(n) => say_front_hex(&room, n),
+        Counted::Refused(n) => say_refused(n),
+    }
+}
+
+// Both counts of digits, the sign, what it prints and what it writes.
+fn say_decimal(d: Decimal) {
+    say_number(d.intg as u64);
+    say_next(d.frac as u64);
+    say_sign(d.sign);
+    say_text(d);
+    say(b" ");
+    say_written(d);
+}
+
+pub(crate) fn say_answer(a: Answer) {
+    if a.refusal == 0 {
+        say_decimal(a.decimal);
+    } else {
+        say_refused(a.refusal);
+    }
+}
