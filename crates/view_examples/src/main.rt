@@ -1,23 +1,142 @@
 // Runs the worked examples of views of binary JSON, a line each: the question, and what the library answers. A view is told as its kind's code, its
 // start, its count and its size.
-mod ask;
-mod say;
-
-use ask::count;
-use ask::decimal_in;
-use ask::element;
-use ask::element_bytes;
-use ask::elements;
-use ask::key;
-use ask::key_bytes;
-use ask::keys;
-use ask::length;
-use ask::members;
-use ask::root;
-use ask::root_view;
+use jsonb::Found;
+use jsonb::Key;
+use jsonb::Scalar;
+use jsonb::Span;
+use jsonb::Value;
 use jsonb::View;
+use raw::Length;
+use words::root_view;
+use words::say;
+use words::say_container;
+use words::say_count;
+use words::say_document;
+use words::say_found;
+use words::say_hex;
+use words::say_key;
+use words::say_number;
+use words::say_read;
+use words::say_refused;
 
-// An array of true and -2.
+fn root(doc: &[u8]) {
+    say(b"root ");
+    say_document(doc);
+    say_read(jsonb::deserialize(doc));
+    say(b"\n");
+}
+
+fn count(doc: &[u8], v: View) {
+    say(b"count");
+    say_container(doc, v);
+    say_count(jsonb::element_count(doc, v));
+    say(b"\n");
+}
+
+fn element(doc: &[u8], v: View, pos: u32) {
+    say(b"element ");
+    say_number(pos as u64);
+    say_container(doc, v);
+    say_found(jsonb::elem_at(doc, v, pos));
+    say(b"\n");
+}
+
+fn key(doc: &[u8], v: View, pos: u32) {
+    say(b"key ");
+    say_number(pos as u64);
+    say_container(doc, v);
+    say_key(jsonb::key_at(doc, v, pos));
+    say(b"\n");
+}
+
+// ---- bytes of the document
+
+fn is_printed(b: u8) -> bool {
+    if b < 32 {
+        return false;
+    }
+    b < 127
+}
+
+fn all_printed(bytes: &[u8]) -> bool {
+    for i in 0..bytes.len() {
+        if !is_printed(bytes[i]) {
+            return false;
+        }
+    }
+    true
+}
+
+// Bytes as text between quotation marks where all are ASCII that prints, else in hexadecimal digits.
+fn say_bytes(bytes: &[u8]) {
+    if all_printed(bytes) {
+        say(b"\"");
+        say(bytes);
+        say(b"\"");
+    } else {
+        say_hex(bytes);
+    }
+}
+
+fn say_part(doc: &[u8], s: Span) {
+    let start = s.start as usize;
+    let end = start + s.len as usize;
+    if end <= doc.len() {
+        say_bytes(&doc[start..end]);
+    }
+    say(b"\n");
+}
+
+// The bytes of an element that is a string.
+fn element_bytes(doc: &[u8], v: View, pos: u32) {
+    let Found::Value(x) = jsonb::elem_at(doc, v, pos) else {
+        return;
+    };
+    let Value::Scalar(_, s) = x else {
+        return;
+    };
+    let Scalar::String(p) = s else {
+        return;
+    };
+    say(b"bytes of element ");
+    say_number(pos as u64);
+    say_container(doc, v);
+    say_part(doc, p);
+}
+
+fn key_bytes(doc: &[u8], v: View, pos: u32) {
+    let Key::Key(p) = jsonb::key_at(doc, v, pos) else {
+        return;
+    };
+    say(b"bytes of key ");
+    say_number(pos as u64);
+    say_container(doc, v);
+    say_part(doc, p);
+}
+
+// ---- length fields: the length, and the place past the field
+
+fn say_length(l: Length) {
+    match l {
+        Length::Field { length, next } => {
+            say_number(length as u64);
+            say(b", and the field ends at ");
+            say_number(next as u64);
+        }
+        Length::Refused(n) => say_refused(n),
+    }
+}
+
+fn length(doc: &[u8]) {
+    say(b"length ");
+    say_document(doc);
+    say_length(raw::length_at(doc, 0, doc.len()));
+    say(b"\n");
+}
+
+// ---- the examples
+
+// An array of true and -2. Its view with another count, and its keys, which it has not.
 fn array_examples() {
     let doc = [
         0x02,
@@ -34,29 +153,10 @@ fn array_examples() {
     ];
     let v = root_view(&doc);
     root(&doc);
-    count(&doc, v);
     element(&doc, v, 0);
     element(&doc, v, 1);
     element(&doc, v, 2);
-    elements(&doc, v);
-}
-
-// The same array by a view with another count, and its keys, which it has not.
-fn view_examples() {
-    let doc = [
-        0x02,
-        0x02,
-        0x00,
-        0x0A,
-        0x00,
-        0x04,
-        0x01,
-        0x00,
-        0x05,
-        0xFE,
-        0xFF,
-    ];
-    let v = root_view(&doc);
+    count(&doc, v);
     let k = v.kind;
     let other = View {
         start: v.start,
@@ -64,15 +164,12 @@ fn view_examples() {
         count: 1,
         kind: k,
     };
-    count(&doc, other);
     element(&doc, other, 0);
-    elements(&doc, other);
+    count(&doc, other);
     key(&doc, v, 0);
-    keys(&doc, v);
-    members(&doc, v);
 }
 
-// An object whose member a is Zoë; then the key's offset is among the entries.
+// An object whose member a is Zoë; then the key's offset is before the header's end.
 fn object_examples() {
     let mut doc = [
         0x00,
@@ -100,8 +197,6 @@ fn object_examples() {
     key_bytes(&doc, v, 0);
     element(&doc, v, 0);
     element_bytes(&doc, v, 0);
-    members(&doc, v);
-    elements(&doc, v);
     doc[5] = 0x0A;
     key(&doc, v, 0);
 }
@@ -147,7 +242,7 @@ fn number_examples() {
         0xFF,
         0xFF,
     ];
-    elements(&small, root_view(&small));
+    element(&small, root_view(&small), 0);
     let large = [
         0x03,
         0x01,
@@ -164,7 +259,7 @@ fn number_examples() {
         0xFF,
         0xFF,
     ];
-    elements(&large, root_view(&large));
+    element(&large, root_view(&large), 0);
 }
 
 // The empty array; with a size past the end, with a count that the size does not hold, and with no size.
@@ -175,15 +270,12 @@ fn header_examples() {
     root(&[0x02, 0x00, 0x00]);
 }
 
+// Literals, an unknown type and the empty document; 1.5 and a NaN.
 fn scalar_examples() {
     root(&[0x04, 0x01]);
     root(&[0x04, 0x03]);
     root(&[0x0D]);
     root(&[]);
-}
-
-// 1.5, and a NaN.
-fn double_examples() {
     root(&[0x0B, 0x00, 0x00, 0x00, 0x00, 0x00, 0x00, 0xF8, 0x3F]);
     root(&[0x0B, 0x01, 0x00, 0x00, 0x00, 0x00, 0x00, 0xF8, 0x7F]);
 }
@@ -193,85 +285,12 @@ fn length_examples() {
     length(&[0x80, 0x80, 0x80, 0x80, 0x10]);
 }
 
-// An opaque decimal; one whose bytes are too few; and a string.
-fn decimal_examples() {
-    root(&[0x0F, 0xF6, 0x04, 0x04, 0x02, 0x73, 0xDD]);
-    decimal_in(&[0x0F, 0xF6, 0x04, 0x04, 0x02, 0x73, 0xDD]);
-    decimal_in(&[0x0F, 0xF6, 0x03, 0x04, 0x02, 0x73, 0xDD]);
-    decimal_in(&[0x0C, 0x04, 0x04, 0x02, 0x73, 0xDD]);
-}
-
-// Three elements, of which the second is no literal.
-fn faulty_element_examples() {
-    let doc = [
-        0x02,
-        0x03,
-        0x00,
-        0x0D,
-        0x00,
-        0x04,
-        0x01,
-        0x00,
-        0x04,
-        0x03,
-        0x00,
-        0x05,
-        0xFE,
-        0xFF,
-    ];
-    elements(&doc, root_view(&doc));
-}
-
-// Three members, of which the second has its key's offset in the header and a value that is no literal.
-fn faulty_member_examples() {
-    let doc = [
-        0x00,
-        0x03,
-        0x00,
-        0x1C,
-        0x00,
-        0x19,
-        0x00,
-        0x01,
-        0x00,
-        0x18,
-        0x00,
-        0x01,
-        0x00,
-        0x1B,
-        0x00,
-        0x01,
-        0x00,
-        0x04,
-        0x00,
-        0x00,
-        0x04,
-        0x03,
-        0x00,
-        0x05,
-        0xFE,
-        0xFF,
-        0x61,
-        0x62,
-        0x63,
-    ];
-    let v = root_view(&doc);
-    keys(&doc, v);
-    members(&doc, v);
-    element(&doc, v, 1);
-}
-
 fn main() {
     array_examples();
-    view_examples();
     object_examples();
     string_examples();
     number_examples();
     header_examples();
     scalar_examples();
-    double_examples();
     length_examples();
-    decimal_examples();
-    faulty_element_examples();
-    faulty_member_examples();
 }

@@ -6,8 +6,8 @@ use lib.Dec.{T}
 use lib.Ieee.{Float, nan, inf, fin, eq, ne, isNan}
 use denote.Floats.{passes}
 use borrow.Author.Needs.{needs}
-use Rattle.view_examples.proofs.say.say_double.Statement.{statement}
-use Rattle.view_examples.proofs.say.say_double.Tie as tie
+use Rattle.words.proofs.say_double.Statement.{statement}
+use Rattle.words.proofs.say_double.Tie as tie
 
 equals-itself : (x : Float) → ne x x ≡ false → T (not (isNan x))
 unfolding ne eq isNan

@@ -3,17 +3,17 @@
 use Prim.Native.Nat.{_≤_, _-_}
 use native.Mathlib.Omega.{arith}
 use borrow.Author.Needs.{needs}
-use Rattle.view_examples.proofs.ask.steps.Statement.{statement}
-use Rattle.view_examples.proofs.ask.steps.Tie as tie
+use Rattle.step_examples.proofs.steps.Statement.{statement}
+use Rattle.step_examples.proofs.steps.Tie as tie
 
 abbrev Inv-loop : tie.InvT-loop
-Inv-loop doc v over at₀ counter₀ at counter = counter ≤ 8
+Inv-loop doc v over at₀ t6 counter₀ at counter = counter ≤ 8
 
 abbrev μ-loop : tie.MeasureT-loop
-μ-loop doc v over at₀ counter₀ at counter = 8 - counter
+μ-loop doc v over at₀ t6 counter₀ at counter = 8 - counter
 
-of-view-requires : tie.Need-of-view-requires Inv-loop μ-loop
-of-view-requires c κs = search needs
+say-container-requires : tie.Need-say-container-requires Inv-loop μ-loop
+say-container-requires c κs = search needs
 
 loop-holds : tie.Need-loop-holds Inv-loop μ-loop
 loop-holds c = omega arith
@@ -30,8 +30,11 @@ loop-less c = omega arith
 loop-again : tie.Need-loop-again Inv-loop μ-loop
 loop-again c = omega arith
 
-end-line-requires : tie.Need-end-line-requires Inv-loop μ-loop
-end-line-requires c κs = search needs
+slice-aggregate-say : tie.Need-slice-aggregate-say Inv-loop μ-loop
+slice-aggregate-say c = search needs
+
+say-requires : tie.Need-say-requires Inv-loop μ-loop
+say-requires c κs = search needs
 
 returns : tie.Need-returns Inv-loop μ-loop
 returns c = search needs
@@ -42,11 +45,12 @@ steps-spec =
     (tie.spec
     Inv-loop
     μ-loop
-    of-view-requires
+    say-container-requires
     loop-holds
     step-requires
     add-counter
     loop-less
     loop-again
-    end-line-requires
+    slice-aggregate-say
+    say-requires
     returns)

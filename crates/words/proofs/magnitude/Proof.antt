@@ -1,8 +1,8 @@
 -- A number below 0 is taken from -1 and counted one up; any other is its own distance.
 -- Assumes nothing.
-use Rattle.view_examples.proofs.Distance.{not-below, itself, turned-fits, turned-cast, distance-fits, distance}
-use Rattle.view_examples.proofs.say.magnitude.Statement.{statement}
-use Rattle.view_examples.proofs.say.magnitude.Tie as tie
+use Rattle.words.proofs.Distance.{not-below, itself, turned-fits, turned-cast, distance-fits, distance}
+use Rattle.words.proofs.magnitude.Statement.{statement}
+use Rattle.words.proofs.magnitude.Tie as tie
 
 sub-result : tie.Need-sub-result
 sub-result c = turned-fits _ (c .before .fits .n) (c .if1 .taken)

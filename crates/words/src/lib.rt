@@ -1,10 +1,9 @@
-// The words of an answer: a value as its numbers, bytes in hexadecimal digits, a refusal by its number.
+// The words in which programs print questions and answers: bytes in hexadecimal digits, a refusal by its number, a value and a decimal by their numbers.
 use decimal::Answer;
 use decimal::Counted;
 use decimal::Decimal;
 use jsonb::Count;
 use jsonb::Found;
-use jsonb::JsonbType;
 use jsonb::Key;
 use jsonb::Kind;
 use jsonb::Member;
@@ -15,15 +14,14 @@ use jsonb::Span;
 use jsonb::Value;
 use jsonb::View;
 use libc::STDOUT_FILENO;
-use raw::Length;
 ghost use mathlib.Core.Path.{_≡_};
 ghost use lib.IntN.{natAbs};
 
-pub(crate) fn say(text: &[u8]) {
+pub fn say(text: &[u8]) {
     io::write_all(STDOUT_FILENO, text);
 }
 
-pub(crate) fn say_number(n: u64) {
+pub fn say_number(n: u64) {
     io::print_decimal(STDOUT_FILENO, n);
 }
 
@@ -32,7 +30,7 @@ fn say_next(n: u64) {
     say_number(n);
 }
 
-pub(crate) fn say_refused(n: u8) {
+pub fn say_refused(n: u8) {
     say(b"refused ");
     say_number(n as u64);
 }
@@ -56,37 +54,44 @@ fn say_front_hex(bytes: &[u8], n: usize) {
 }
 
 // Bytes in hexadecimal digits, - for none.
-pub(crate) fn say_hex(bytes: &[u8]) {
+pub fn say_hex(bytes: &[u8]) {
     if bytes.len() == 0 {
         say(b"-");
     }
     say_front_hex(bytes, bytes.len());
 }
 
-fn is_printed(b: u8) -> bool {
-    if b < 32 {
-        return false;
-    }
-    b < 127
+// ---- questions
+
+// The document that a question is about.
+pub fn say_document(doc: &[u8]) {
+    say_hex(doc);
+    say(b": ");
 }
 
-fn all_printed(bytes: &[u8]) -> bool {
-    for i in 0..bytes.len() {
-        if !is_printed(bytes[i]) {
-            return false;
+// The view and the document that a question is about.
+pub fn say_container(doc: &[u8], v: View) {
+    say(b" of ");
+    say_view(v);
+    say(b" in ");
+    say_document(doc);
+}
+
+// The view of a document's root; where that is no container, one that no container has.
+pub fn root_view(doc: &[u8]) -> View {
+    if let Read::Value(x) = jsonb::deserialize(doc) {
+        if let Value::Container(v) = x {
+            return v;
         }
     }
-    true
-}
-
-// Bytes as text between quotation marks where all are ASCII that prints, else in hexadecimal digits.
-pub(crate) fn say_bytes(bytes: &[u8]) {
-    if all_printed(bytes) {
-        say(b"\"");
-        say(bytes);
-        say(b"\"");
-    } else {
-        say_hex(bytes);
+    View {
+        start: 0,
+        size: 0,
+        count: 0,
+        kind: Kind {
+            object: false,
+            large: false,
+        },
     }
 }
 
@@ -106,7 +111,7 @@ fn kind_code(k: Kind) -> u64 {
 }
 
 // Kind, start, count and size.
-pub(crate) fn say_view(v: View) {
+pub fn say_view(v: View) {
     let k = v.kind;
     say_number(kind_code(k));
     say_next(v.start as u64);
@@ -163,18 +168,16 @@ fn say_number_case(x: Number) {
     }
 }
 
-fn say_truth(b: bool) {
-    if b {
-        say(b" true");
-    } else {
-        say(b" false");
-    }
-}
-
 fn say_case(s: Scalar) {
     match s {
         Scalar::Null => say(b" null"),
-        Scalar::Boolean(b) => say_truth(b),
+        Scalar::Boolean(b) => {
+            if b {
+                say(b" true");
+            } else {
+                say(b" false");
+            }
+        }
         Scalar::Number(x) => say_number_case(x),
         Scalar::String(p) => {
             say(b" string");
@@ -188,15 +191,13 @@ fn say_case(s: Scalar) {
     }
 }
 
-fn say_scalar(t: JsonbType, s: Scalar) {
-    say(b"scalar");
-    say_next(t.code() as u64);
-    say_case(s);
-}
-
 fn say_value(x: Value) {
     match x {
-        Value::Scalar(t, s) => say_scalar(t, s),
+        Value::Scalar(t, s) => {
+            say(b"scalar");
+            say_next(t.code() as u64);
+            say_case(s);
+        }
         Value::Container(v) => {
             say(b"container ");
             say_view(v);
@@ -211,14 +212,14 @@ fn say_key_span(s: Span) {
 
 // ---- answers
 
-pub(crate) fn say_read(r: Read) {
+pub fn say_read(r: Read) {
     match r {
         Read::Value(x) => say_value(x),
         Read::Refused(n) => say_refused(n),
     }
 }
 
-pub(crate) fn say_found(f: Found) {
+pub fn say_found(f: Found) {
     match f {
         Found::Value(x) => say_value(x),
         Found::Nothing => say(b"nothing"),
@@ -226,7 +227,7 @@ pub(crate) fn say_found(f: Found) {
     }
 }
 
-pub(crate) fn say_key(k: Key) {
+pub fn say_key(k: Key) {
     match k {
         Key::Key(s) => say_key_span(s),
         Key::Nothing => say(b"nothing"),
@@ -234,7 +235,7 @@ pub(crate) fn say_key(k: Key) {
     }
 }
 
-pub(crate) fn say_member(m: Member) {
+pub fn say_member(m: Member) {
     match m {
         Member::Member(s, x) => {
             say_key_span(s);
@@ -246,34 +247,14 @@ pub(crate) fn say_member(m: Member) {
     }
 }
 
-pub(crate) fn say_count(c: Count) {
+pub fn say_count(c: Count) {
     match c {
         Count::Count(n) => say_number(n as u64),
         Count::Refused(n) => say_refused(n),
     }
 }
 
-// The length, and the place past the field.
-pub(crate) fn say_length(l: Length) {
-    match l {
-        Length::Field { length, next } => {
-            say_number(length as u64);
-            say(b", and the field ends at ");
-            say_number(next as u64);
-        }
-        Length::Refused(n) => say_refused(n),
-    }
-}
-
 // ---- decimals
-
-fn say_sign(negative: bool) {
-    if negative {
-        say(b" - ");
-    } else {
-        say(b" + ");
-    }
-}
 
 fn say_text(d: Decimal) {
     let mut text = [0u8; 68];
@@ -295,13 +276,17 @@ fn say_written(d: Decimal) {
 fn say_decimal(d: Decimal) {
     say_number(d.intg as u64);
     say_next(d.frac as u64);
-    say_sign(d.sign);
+    if d.sign {
+        say(b" - ");
+    } else {
+        say(b" + ");
+    }
     say_text(d);
     say(b" ");
     say_written(d);
 }
 
-pub(crate) fn say_answer(a: Answer) {
+pub fn say_answer(a: Answer) {
     if a.refusal == 0 {
         say_decimal(a.decimal);
     } else {

@@ -3,8 +3,8 @@
 use Prim.Native.Nat.{_≤_, _-_}
 use native.Mathlib.Omega.{arith}
 use borrow.Author.Needs.{needs}
-use Rattle.view_examples.proofs.say.say_front_hex.Statement.{statement}
-use Rattle.view_examples.proofs.say.say_front_hex.Tie as tie
+use Rattle.words.proofs.say_front_hex.Statement.{statement}
+use Rattle.words.proofs.say_front_hex.Tie as tie
 
 abbrev Inv-loop : tie.InvT-loop
 Inv-loop bytes n i₀ i = i ≤ n
