@@ -1,0 +1,27 @@
+-- The examples marked (P), as one statement over their table: the definitions answer each question as document 01 does. antt computes both sides.
+-- Assumes nothing.
+use mathlib.Core.Path.{_≡_, refl}
+use mathlib.Core.List.{map}
+use Rattle.groups.specs.Numbers.{number, digits, tab, leadingIn}
+use Rattle.groups.specs.Layout.{width, groupsOf, side, digitsAt, offset}
+use Rattle.groups.specs.Packed.{flip, flipFirst, digitsIn}
+use Rattle.groups.specs.Read.{inRange, groupAt, rangeAt, unitOf, storedAt, groupsIn, readGroups}
+use Rattle.groups.specs.Write.{digitsOk, wellAt, wellFormed, groupDigits, digitsTo}
+use Rattle.numeral.specs.Print.{unpadded, wholeDigits, fractionText}
+use Rattle.decimal.specs.Read.{negative, decimalOf, without, finished, fromGroups, readBin, readPacked}
+use Rattle.decimal.specs.Text.{printed}
+use Rattle.raw.specs.Numbers.{value, le}
+use Rattle.raw.specs.Length.{groups}
+use Rattle.codes.specs.Lists.{search as searched}
+use Rattle.codes.specs.Types.{typeOf}
+use Rattle.codes.specs.Literals.{typeOf as literalType}
+use Rattle.layout.specs.Layout.{offsetSize, keyEntry, keyPlace, valuePlace, headerSize, offsetAt}
+use Rattle.content.specs.Reading.{headerAt, literalAt, numberAt, partAt, stringAt, contentAt, placeFault, readAt, headerRead}
+use Rattle.entry.specs.Entries.{pointedAt, typedEntry, entryAt, keyOf, keyEntryAt}
+use Rattle.jsonb.specs.Said.{Said}
+use Rattle.jsonb.specs.Views.{rootRead, matches, gated, elemAt, keyAt}
+use Rattle.paper.specs.Paper.{Row, Thing, prints, printedOr, rootView, asked, table}
+
+pub proved : map (λ (r : Row × Said Thing). asked (r .0)) table ≡ map (λ (r : Row × Said Thing). r .1) table
+unfolding prints digitsOk wellAt wellFormed number digits tab width groupsOf side digitsAt offset flip flipFirst digitsIn inRange groupAt rangeAt unitOf storedAt groupsIn readGroups groupDigits digitsTo unpadded wholeDigits fractionText negative decimalOf leadingIn without finished fromGroups readBin readPacked printed printedOr value le groups searched typeOf literalType offsetSize keyEntry keyPlace valuePlace headerSize offsetAt headerAt literalAt numberAt partAt stringAt contentAt placeFault readAt headerRead pointedAt typedEntry entryAt keyOf keyEntryAt rootRead matches gated elemAt keyAt rootView asked
+proved = refl

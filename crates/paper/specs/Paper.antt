@@ -1,0 +1,144 @@
+-- Document 01's examples that are marked (P): each row a question, and beside it what document 01 answers. A kind of question is a constructor
+-- of `Row`, and `asked` says what the definitions answer to it: a thing, nothing, or the number of the refusal.
+-- Assumes nothing.
+use Prim.Native.Nat.{ℕ}
+use mathlib.Core.Bool.{Bool, true, false, cond}
+use mathlib.Core.List.{List, [], _∷_}
+use lib.Dec.{eqb}
+use lib.IntN.{ℤ, negsuc}
+use lib.ListN.{take, drop}
+use Rattle.decimal.specs.Read.{readBin, readPacked}
+use Rattle.decimal.specs.Write.{isWell}
+use Rattle.decimal.specs.Text.{printed}
+use Rattle.decimal.specs.declared.Decimal.{Decimal}
+use Rattle.decimal.specs.declared.Answer.{Answer}
+use Rattle.codes.specs.declared.types.JsonbType.{JsonbType}
+use Rattle.codes.specs.declared.types.JsonbType.the-variants as type
+use Rattle.value.specs.declared.View.{View}
+use Rattle.value.specs.declared.Span.{Span}
+use Rattle.value.specs.declared.Number.the-variants as number
+use Rattle.value.specs.declared.Scalar.{Scalar}
+use Rattle.value.specs.declared.Scalar.the-variants as scalar
+use Rattle.value.specs.declared.Value.{Value}
+use Rattle.value.specs.declared.Value.the-variants as value
+use Rattle.content.specs.Reading.{kind, span, view}
+use Rattle.jsonb.specs.Said.{Said, says, nothing, refuses, readSaid}
+use Rattle.jsonb.specs.Views.{rootRead, elemAt, keyAt}
+
+pub data Row : Type 0 where
+  -- a packed decimal, with its precision kept or not
+  packed : List ℕ → Bool → Row
+  -- digit bytes of a precision and a scale, with the precision kept or not
+  digits : List ℕ → ℕ → ℕ → Bool → Row
+  -- a document's root
+  root : List ℕ → Row
+  -- of the container that is a document's root: the value at a position, the bytes of a string there, the key there
+  element : List ℕ → ℕ → Row
+  string : List ℕ → ℕ → Row
+  key : List ℕ → ℕ → Row
+
+pub data Thing : Type 0 where
+  -- the characters that a decimal prints, or the bytes of a string
+  text : List ℕ → Thing
+  -- a value
+  valued : Value → Thing
+  -- where a key stands
+  keyed : Span → Thing
+
+-- ---- decimals: what one prints, or 26; or what reading it refused
+unfoldable pub prints : Decimal → Said Thing
+prints d = cond (isWell d) (says (text (printed d))) (refuses 26)
+
+unfoldable pub printedOr : Answer → Said Thing
+printedOr a = cond (eqb (a .refusal) 0) (prints (a .decimal)) (refuses (a .refusal))
+
+-- ---- documents
+-- what is said of an answer's thing
+abbrev pub of : {A B : Type 0} → (A → Said B) → Said A → Said B
+of f (says x) = f x
+of f nothing = nothing
+of f (refuses n) = refuses n
+
+-- a container's view; a scalar has none
+abbrev pub viewOf : Value → Said View
+viewOf (value.Container v) = says v
+viewOf (value.Scalar t s) = nothing
+
+-- the bytes of a string; other values have none
+abbrev pub bytesOf : List ℕ → Value → Said Thing
+bytesOf d (value.Container v) = nothing
+bytesOf d (value.Scalar t (scalar.String s)) = says (text (take (s .len) (drop (s .start) d)))
+bytesOf d (value.Scalar t scalar.Null) = nothing
+bytesOf d (value.Scalar t (scalar.Boolean b)) = nothing
+bytesOf d (value.Scalar t (scalar.Number x)) = nothing
+bytesOf d (value.Scalar t (scalar.Opaque c s)) = nothing
+
+unfoldable pub rootView : List ℕ → Said View
+rootView d = of viewOf (readSaid (rootRead d))
+
+unfoldable pub asked : Row → Said Thing
+asked (packed bs keep) = printedOr (readPacked bs keep)
+asked (digits bs p s keep) = printedOr (readBin bs p s keep)
+asked (root d) = of (λ x. says (valued x)) (readSaid (rootRead d))
+asked (element d i) = of (λ v. of (λ x. says (valued x)) (elemAt d v i)) (rootView d)
+asked (string d i) = of (λ v. of (bytesOf d) (elemAt d v i)) (rootView d)
+asked (key d i) = of (λ v. of (λ s. says (keyed s)) (keyAt d v i)) (rootView d)
+
+-- ---- answers by their numbers
+abbrev pub container : Bool → Bool → ℕ → ℕ → ℕ → Said Thing
+container object large start count size = says (valued (value.Container (view start size count (kind object large))))
+
+abbrev pub is : JsonbType → Scalar → Said Thing
+is t s = says (valued (value.Scalar t s))
+
+abbrev pub int : JsonbType → ℤ → Said Thing
+int t z = is t (scalar.Number (number.Int z))
+
+-- ---- the documents
+abbrev pub trueAndMinusTwo : List ℕ
+trueAndMinusTwo = 0x02 ∷ 0x02 ∷ 0x00 ∷ 0x0A ∷ 0x00 ∷ 0x04 ∷ 0x01 ∷ 0x00 ∷ 0x05 ∷ 0xFE ∷ 0xFF ∷ []
+
+-- an object whose member a is Zoë, over the offset of its key
+abbrev pub zoe : ℕ → List ℕ
+zoe offset = 0x00 ∷ 0x01 ∷ 0x00 ∷ 0x11 ∷ 0x00 ∷ offset ∷ 0x00 ∷ 0x01 ∷ 0x00 ∷ 0x0C ∷ 0x0C ∷ 0x00 ∷ 0x61 ∷ 0x04 ∷ 0x5A ∷ 0x6F ∷ 0xC3 ∷ 0xAB ∷ []
+
+-- an array whose first element is a string, over its offset
+abbrev pub among : ℕ → List ℕ
+among offset = 0x02 ∷ 0x02 ∷ 0x00 ∷ 0x0C ∷ 0x00 ∷ 0x0C ∷ offset ∷ 0x00 ∷ 0x04 ∷ 0x01 ∷ 0x00 ∷ 0x41 ∷ 0x42 ∷ []
+
+-- small and large arrays of an Int32
+abbrev pub pointed : List ℕ
+pointed = 0x02 ∷ 0x01 ∷ 0x00 ∷ 0x0B ∷ 0x00 ∷ 0x07 ∷ 0x07 ∷ 0x00 ∷ 0xFF ∷ 0xFF ∷ 0xFF ∷ 0xFF ∷ []
+
+abbrev pub inlined : List ℕ
+inlined = 0x03 ∷ 0x01 ∷ 0x00 ∷ 0x00 ∷ 0x00 ∷ 0x0D ∷ 0x00 ∷ 0x00 ∷ 0x00 ∷ 0x07 ∷ 0xFF ∷ 0xFF ∷ 0xFF ∷ 0xFF ∷ []
+
+abbrev pub table : List (Row × Said Thing)
+table =
+    -- "-12.34" and "12.34"
+    (packed (0x04 ∷ 0x02 ∷ 0x73 ∷ 0xDD ∷ []) true, says (text (45 ∷ 49 ∷ 50 ∷ 46 ∷ 51 ∷ 52 ∷ [])))
+    ∷ (packed (0x04 ∷ 0x02 ∷ 0x8C ∷ 0x22 ∷ []) true, says (text (49 ∷ 50 ∷ 46 ∷ 51 ∷ 52 ∷ [])))
+    -- "99", and a group out of range
+    ∷ (digits (0xE3 ∷ []) 2 0 true, says (text (57 ∷ 57 ∷ [])))
+    ∷ (digits (0xE4 ∷ []) 2 0 true, refuses 22)
+    -- "-0" with kept precision, "0" without
+    ∷ (digits (0x7F ∷ []) 2 0 true, says (text (45 ∷ 48 ∷ [])))
+    ∷ (digits (0x7F ∷ []) 2 0 false, says (text (48 ∷ [])))
+    -- an array of true and -2
+    ∷ (root trueAndMinusTwo, container false false 1 2 10)
+    ∷ (element trueAndMinusTwo 0, is type.Literal (scalar.Boolean true))
+    ∷ (element trueAndMinusTwo 1, int type.Int16 (negsuc 1))
+    ∷ (element trueAndMinusTwo 2, nothing)
+    -- member a is Zoë; with a key's offset of 0A the key is 5
+    ∷ (key (zoe 0x0B) 0, says (keyed (span 12 1)))
+    ∷ (element (zoe 0x0B) 0, is type.String (scalar.String (span 14 4)))
+    ∷ (string (zoe 0x0B) 0, says (text (0x5A ∷ 0x6F ∷ 0xC3 ∷ 0xAB ∷ [])))
+    ∷ (key (zoe 0x0A) 0, refuses 5)
+    -- the string 01 00 41 42 begins among later entries; in its own entry the pointer is 6
+    ∷ (element (among 0x07) 0, is type.String (scalar.String (span 9 4)))
+    ∷ (string (among 0x07) 0, says (text (0x01 ∷ 0x00 ∷ 0x41 ∷ 0x42 ∷ [])))
+    ∷ (element (among 0x06) 0, refuses 6)
+    -- both hold -1
+    ∷ (element pointed 0, int type.Int32 (negsuc 0))
+    ∷ (element inlined 0, int type.Int32 (negsuc 0))
+    ∷ []
