@@ -53,11 +53,11 @@ unfoldable pub printedOr : Answer → Said Thing
 printedOr a = cond (eqb (a .refusal) 0) (prints (a .decimal)) (refuses (a .refusal))
 
 -- ---- documents
--- what is said of an answer's thing
-abbrev pub of : {A B : Type 0} → (A → Said B) → Said A → Said B
-of f (says x) = f x
-of f nothing = nothing
-of f (refuses n) = refuses n
+-- what a thing that is said is asked further
+abbrev pub further : {A B : Type 0} → (A → Said B) → Said A → Said B
+further f (says x) = f x
+further f nothing = nothing
+further f (refuses n) = refuses n
 
 -- a container's view; a scalar has none
 abbrev pub viewOf : Value → Said View
@@ -74,15 +74,15 @@ bytesOf d (value.Scalar t (scalar.Number x)) = nothing
 bytesOf d (value.Scalar t (scalar.Opaque c s)) = nothing
 
 unfoldable pub rootView : List ℕ → Said View
-rootView d = of viewOf (readSaid (rootRead d))
+rootView d = further viewOf (readSaid (rootRead d))
 
 unfoldable pub asked : Row → Said Thing
 asked (packed bs keep) = printedOr (readPacked bs keep)
 asked (digits bs p s keep) = printedOr (readBin bs p s keep)
-asked (root d) = of (λ x. says (valued x)) (readSaid (rootRead d))
-asked (element d i) = of (λ v. of (λ x. says (valued x)) (elemAt d v i)) (rootView d)
-asked (string d i) = of (λ v. of (bytesOf d) (elemAt d v i)) (rootView d)
-asked (key d i) = of (λ v. of (λ s. says (keyed s)) (keyAt d v i)) (rootView d)
+asked (root d) = further (λ x. says (valued x)) (readSaid (rootRead d))
+asked (element d i) = further (λ v. further (λ x. says (valued x)) (elemAt d v i)) (rootView d)
+asked (string d i) = further (λ v. further (bytesOf d) (elemAt d v i)) (rootView d)
+asked (key d i) = further (λ v. further (λ s. says (keyed s)) (keyAt d v i)) (rootView d)
 
 -- ---- answers by their numbers
 abbrev pub container : Bool → Bool → ℕ → ℕ → ℕ → Said Thing

@@ -270,14 +270,21 @@ fn header_examples() {
     root(&[0x02, 0x00, 0x00]);
 }
 
-// Literals, an unknown type and the empty document; 1.5 and a NaN.
-fn scalar_examples() {
+// A literal, an unknown one, an unknown type, and the empty document.
+fn literal_examples() {
     root(&[0x04, 0x01]);
     root(&[0x04, 0x03]);
     root(&[0x0D]);
     root(&[]);
+}
+
+// The largest UInt16, the least Int64, 1.5, a NaN, and an opaque decimal.
+fn scalar_examples() {
+    root(&[0x06, 0xFF, 0xFF]);
+    root(&[0x09, 0x00, 0x00, 0x00, 0x00, 0x00, 0x00, 0x00, 0x80]);
     root(&[0x0B, 0x00, 0x00, 0x00, 0x00, 0x00, 0x00, 0xF8, 0x3F]);
     root(&[0x0B, 0x01, 0x00, 0x00, 0x00, 0x00, 0x00, 0xF8, 0x7F]);
+    root(&[0x0F, 0xF6, 0x04, 0x04, 0x02, 0x73, 0xDD]);
 }
 
 fn length_examples() {
@@ -291,6 +298,7 @@ fn main() {
     string_examples();
     number_examples();
     header_examples();
+    literal_examples();
     scalar_examples();
     length_examples();
 }
