@@ -1,0 +1,137 @@
+-- Cases of the definitions by the tests that lead to them, with what callees gave as variables of their own.
+-- Assumes nothing.
+use mathlib.Core.Path.{_≡_, refl, sym, ap, _∙_}
+use mathlib.Core.Bool.{Bool, true, false, cond}
+use mathlib.Core.List.{List, [], _∷_}
+use Prim.Native.Nat.{ℕ, suc, _+_, _*_, _-_, _/_, _≤_, _<_}
+use native.Mathlib.Omega.{arith}
+use native.Mathlib.Numerals.{add-one}
+use lib.ListN.{length, take, drop, set}
+use lib.Seq.{sets}
+use lib.Dec.{ltb}
+use borrow.Author.Tests.{le-ltb, lt-ltb, eq-eqb, ne-eqb, ltb-true}
+use Rattle.layout.proofs.Cond.{yes, no}
+use Rattle.layout.specs.declared.Kind.{Kind}
+use Rattle.codes.specs.declared.types.JsonbType.{JsonbType}
+use Rattle.utf8.specs.Course.{checked}
+use Rattle.utf8.specs.declared.Utf8Check.{Utf8Check}
+use Rattle.value.specs.declared.Span.{Span}
+use Rattle.value.specs.declared.Value.{Value}
+use Rattle.jsonb.specs.Said.{says}
+use Rattle.events.specs.declared.Event.{Event}
+use Rattle.events.specs.declared.Spot.{Spot}
+use Rattle.events.specs.declared.Walked.the-variants.{Done, Stopped}
+use Rattle.events.specs.Events.{span, kindCode, codeOf, bytesOf, bytesFrom, partOf, extraOf, eventOf, wide}
+use Rattle.events.specs.Text.{isValid, isText, isTextual}
+use Rattle.events.specs.Judged.{bad, good, valueJudged}
+use Rattle.events.specs.Listing.{node, childless}
+use Rattle.events.specs.Lay.{Laid, laid, put, room, lay}
+
+-- a container's code
+module _ (k : Kind) where
+  pub large-object : k .object ≡ true → k .large ≡ true → 1 ≡ kindCode k
+  unfolding kindCode
+  large-object o l = yes _ o (yes _ l refl)
+
+  pub small-object : k .object ≡ true → k .large ≡ false → 0 ≡ kindCode k
+  unfolding kindCode
+  small-object o l = yes _ o (no _ l refl)
+
+  pub large-array : k .object ≡ false → k .large ≡ true → 3 ≡ kindCode k
+  unfolding kindCode
+  large-array o l = no _ o (yes _ l refl)
+
+  pub small-array : k .object ≡ false → k .large ≡ false → 2 ≡ kindCode k
+  unfolding kindCode
+  small-array o l = no _ o (no _ l refl)
+
+-- the bytes of a type; n is how many as the callee gives it
+module _ (t : JsonbType) (from : ℕ) where
+  pub bytes-none : from ≡ 0 → span 0 0 ≡ bytesFrom t from
+  unfolding bytesFrom
+  bytes-none e = yes _ (eq-eqb from 0 e) refl
+
+  pub bytes-some : {n : ℕ} → (from ≡ 0 → ⊥) → n ≡ bytesOf t → span from n ≡ bytesFrom t from
+  unfolding bytesFrom
+  bytes-some e ne = no _ (ne-eqb from 0 e) (ap (span from) ne)
+
+-- a part that the document has not, and one that it has; its check r and whether that is valid, b, as callees give them
+module _ (d : List ℕ) (s : Span) where
+  pub past-the-end : length d < s .start + s .len → false ≡ isText d s
+  unfolding isText
+  past-the-end h = yes _ (lt-ltb (length d) (s .start + s .len) h) refl
+
+  pub text-is : {r : Utf8Check} {b : Bool} → s .start + s .len ≤ length d → r ≡ checked (take (s .start + s .len - s .start) (drop (s .start) d)) → b ≡ isValid r → b ≡ isText d s
+  unfolding isText
+  text-is h re be =
+      let n : s .start + s .len - s .start ≡ s .len = omega arith in
+      no _ (le-ltb (length d) (s .start + s .len) h) (be ∙ ap isValid (re ∙ ap (λ (k : ℕ). checked (take k (drop (s .start) d))) n))
+
+-- the event of a value; its code, part and extra number as callees give them
+module _ (s : Spot) (x : Value) where
+  abbrev event : ℕ → Span → ℕ → Event
+  event c p e = record { code = c; depth = s .depth; position = s .position; key = s .key; part = p; extra = e }
+
+  pub event-is : {c e : ℕ} {p : Span} → c ≡ codeOf x → p ≡ partOf x (s .from) → e ≡ extraOf x → event c p e ≡ eventOf s x
+  event-is {c} {e} {p} ce pe ee =
+      ap (λ (n : ℕ). event n p e) ce ∙ ap (λ (q : Span). event (codeOf x) q e) pe ∙ ap (λ (n : ℕ). event (codeOf x) (partOf x (s .from)) n) ee
+
+-- the room of a list
+module _ (out : List ℕ) where
+  pub room-capped : 4294967295 < length out / wide → 4294967295 ≡ room out
+  unfolding room
+  room-capped h = yes _ (lt-ltb 4294967295 (length out / wide) h) refl
+
+  pub room-all : length out / wide ≤ 4294967295 → length out / wide ≡ room out
+  unfolding room
+  room-all h = no _ (le-ltb 4294967295 (length out / wide) h) refl
+
+  -- where there is room for an event, its numbers lie within the list
+  room-by : (n : ℕ) (b : Bool) → ltb 4294967295 (length out / wide) ≡ b → n < cond b 4294967295 (length out / wide) → wide * n + wide ≤ length out
+  room-by n true e h = omega (arith, ltb-true 4294967295 (length out / wide) e)
+  room-by n false e h = omega arith
+
+  pub room-for : (n : ℕ) → n < room out → wide * n + wide ≤ length out
+  unfolding room
+  room-for n h = room-by n (ltb 4294967295 (length out / wide)) refl h
+
+-- numbers stored one after the other, at i + k and up, as code stores them
+abbrev stores : List ℕ → ℕ → ℕ → List ℕ → List ℕ
+stores l i k [] = l
+stores l i k (a ∷ vs) = stores (set l (i + k) a) i (k + 1) vs
+
+stores-run : (vs l : List ℕ) (i k : ℕ) → stores l i k vs ≡ sets l (i + k) vs
+stores-run [] l i k = refl
+stores-run (a ∷ vs) l i k =
+    let e : i + (k + 1) ≡ suc (i + k) = omega arith in
+    stores-run vs (set l (i + k) a) i (k + 1) ∙ ap (λ (j : ℕ). sets (set l (i + k) a) j vs) e
+
+pub run-of-stores : (l : List ℕ) (i a : ℕ) (vs : List ℕ) → stores (set l i a) i 1 vs ≡ sets l i (a ∷ vs)
+run-of-stores l i a vs = stores-run vs (set l i a) i 1 ∙ ap (λ (j : ℕ). sets (set l i a) j vs) (add-one i)
+
+-- one value listed: no text, no room, or put down, which leaves o; b tells whether it is text, k is the room and e the event, as callees give them
+module _ (d : List ℕ) (s : Spot) (x : Value) (out : List ℕ) (n : ℕ) {b : Bool} (be : b ≡ isTextual d x) where
+  abbrev one : Laid
+  one = lay (node (valueJudged d s (says x)) (s .place) childless) out n
+
+  abbrev by : Bool → Laid
+  by t = lay (node (cond t (good (eventOf s x) x) (bad 9 (s .place))) (s .place) childless) out n
+
+  pub no-text : b ≡ false → one ≡ laid (Stopped 9 (s .place) n) out
+  unfolding lay
+  no-text t = ap by (sym be ∙ t)
+
+  module _ (t : b ≡ true) {k : ℕ} (ke : k ≡ room out) where
+    abbrev fits : Bool → Laid
+    fits y = cond y (laid (Done (n + 1)) (put out n (eventOf s x))) (laid (Stopped 12 (s .place) n) out)
+
+    pub no-room : k ≤ n → one ≡ laid (Stopped 12 (s .place) n) out
+    unfolding lay
+    no-room h = ap by (sym be ∙ t) ∙ ap fits (le-ltb n (room out) (omega arith))
+
+    pub put-down : {e : Event} {o : List ℕ} → n < k → e ≡ eventOf s x → o ≡ put out n e → one ≡ laid (Done (n + 1)) o
+    unfolding lay
+    put-down h ee oe =
+        ap by (sym be ∙ t)
+        ∙ ap fits (lt-ltb n (room out) (omega arith))
+        ∙ ap (λ (q : List ℕ). laid (Done (n + 1)) q) (sym (oe ∙ ap (put out n) ee))

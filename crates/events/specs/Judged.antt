@@ -1,0 +1,44 @@
+-- What is said of one path: its event, or its first fault with its number and place. The order is document 01's: the key 5, the key 9, the value, a
+-- string 9. A key's fault has the place of the key entry, any other that of the value entry.
+-- Assumes nothing.
+use Prim.Native.Nat.{ℕ}
+use mathlib.Core.Bool.{cond}
+use mathlib.Core.List.{List}
+use Rattle.jsonb.specs.Said.{Said, says, nothing, refuses}
+use Rattle.value.specs.declared.Span.{Span}
+use Rattle.value.specs.declared.Value.{Value}
+use Rattle.events.specs.declared.Event.{Event}
+use Rattle.events.specs.declared.Spot.{Spot}
+use Rattle.events.specs.Events.{eventOf}
+use Rattle.events.specs.Text.{isText, isTextual}
+
+-- what stands at a path: the places of its entries, its key, its value, and the value's first byte
+pub record Stand : Type 0 where
+  pub place : ℕ
+  pub keyPlace : ℕ
+  pub key : Said Span
+  pub value : Said Value
+  pub from : ℕ
+
+pub data Judged : Type 0 where
+  bad : ℕ → ℕ → Judged
+  good : Event → Value → Judged
+
+abbrev pub spot : ℕ → ℕ → ℕ → Span → ℕ → Spot
+spot depth i p k f = record { depth = depth; position = i; place = p; key = k; from = f }
+
+-- the value, then its text. Below a container's count there is no nothing
+abbrev pub valueJudged : List ℕ → Spot → Said Value → Judged
+valueJudged d s (says x) = cond (isTextual d x) (good (eventOf s x) x) (bad 9 (s .place))
+valueJudged d s nothing = bad 0 (s .place)
+valueJudged d s (refuses n) = bad n (s .place)
+
+-- the key, then its text, then the value
+abbrev pub keyJudged : List ℕ → ℕ → ℕ → Stand → Said Span → Judged
+keyJudged d depth i s (says k) = cond (isText d k) (valueJudged d (spot depth i (s .place) k (s .from)) (s .value)) (bad 9 (s .keyPlace))
+keyJudged d depth i s nothing = bad 0 (s .keyPlace)
+keyJudged d depth i s (refuses n) = bad n (s .keyPlace)
+
+-- a path of this length that ends in position i
+abbrev pub judged : List ℕ → ℕ → ℕ → Stand → Judged
+judged d depth i s = keyJudged d depth i s (s .key)

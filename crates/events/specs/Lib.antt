@@ -1,0 +1,5 @@
+pub mod Events
+pub mod Text
+pub mod Judged
+pub mod Listing
+pub mod Lay

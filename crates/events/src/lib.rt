@@ -1,0 +1,265 @@
+// One event of the walk: what it says of a value, and how its numbers are laid into the lent list.
+use codes::JsonbType;
+use layout::Kind;
+use utf8::Utf8Check;
+use value::Scalar;
+use value::Span;
+use value::Value;
+ghost use mathlib.Core.Path.{_≡_};
+ghost use Prim.Native.Nat.{_+_, _*_, _≤_};
+ghost use lib.ListN.{length};
+ghost use Rattle.events.specs.Events.{wide as eventWide, kindCode, codeOf, bytesOf, bytesFrom, scalarPart, partOf, scalarExtra, extraOf, eventOf};
+ghost use Rattle.events.specs.Text.{isValid, isText, scalarText, isTextual};
+ghost use Rattle.jsonb.specs.Said.{says};
+ghost use Rattle.events.specs.Judged.{valueJudged};
+ghost use Rattle.events.specs.Listing.{node, childless};
+ghost use Rattle.events.specs.Lay.{room, put, lay, laid};
+
+// An event: the type code, the depth, the position, the key's bytes, the value's bytes, and a count or a column type.
+pub struct Event {
+    pub code: u32,
+    pub depth: u32,
+    pub position: u32,
+    pub key: Span,
+    pub part: Span,
+    pub extra: u32,
+}
+
+// Where a value stands: its path's length and last position, its entry's place, its key, and its own first byte.
+pub struct Spot {
+    pub depth: u32,
+    pub position: u32,
+    pub place: usize,
+    pub key: Span,
+    pub from: u32,
+}
+
+// How a walk ends: after so many events, or at a refusal, its number and its place.
+pub enum Walked {
+    Done {
+        count: usize,
+    },
+    Stopped {
+        number: u8,
+        place: usize,
+        count: usize,
+    },
+}
+
+fn widen(n: u8) -> u32
+    ensures { λ r. ⌜ r ≡ n ⌝ }
+{
+    n as u32
+}
+
+fn kind_code(k: Kind) -> u32
+    ensures { λ r. ⌜ r ≡ kindCode k ⌝ }
+{
+    if k.object {
+        if k.large {
+            return 1;
+        }
+        return 0;
+    }
+    if k.large {
+        return 3;
+    }
+    2
+}
+
+// The type code of a value.
+pub fn code_of(x: Value) -> u32
+    ensures { λ r. ⌜ r ≡ codeOf x ⌝ }
+{
+    match x {
+        Value::Scalar(t, _) => widen(t.code()),
+        Value::Container(v) => kind_code(v.kind),
+    }
+}
+
+fn bytes_of(t: JsonbType) -> u32
+    ensures { λ r. ⌜ r ≡ bytesOf t ⌝ }
+{
+    match t {
+        JsonbType::SmallObject => 0,
+        JsonbType::LargeObject => 0,
+        JsonbType::SmallArray => 0,
+        JsonbType::LargeArray => 0,
+        JsonbType::Literal => 1,
+        JsonbType::Int16 => 2,
+        JsonbType::Uint16 => 2,
+        JsonbType::Int32 => 4,
+        JsonbType::Uint32 => 4,
+        JsonbType::Int64 => 8,
+        JsonbType::Uint64 => 8,
+        JsonbType::Double => 8,
+        JsonbType::String => 0,
+        JsonbType::Opaque => 0,
+    }
+}
+
+fn bytes_from(t: JsonbType, from: u32) -> Span
+    ensures { λ r. ⌜ r ≡ bytesFrom t from ⌝ }
+{
+    if from == 0 {
+        return Span { start: 0, len: 0 };
+    }
+    Span {
+        start: from,
+        len: bytes_of(t),
+    }
+}
+
+fn scalar_part(t: JsonbType, s: Scalar, from: u32) -> Span
+    ensures { λ r. ⌜ r ≡ scalarPart t s from ⌝ }
+{
+    match s {
+        Scalar::Null => bytes_from(t, from),
+        Scalar::Boolean(_) => bytes_from(t, from),
+        Scalar::Number(_) => bytes_from(t, from),
+        Scalar::String(p) => p,
+        Scalar::Opaque(_, p) => p,
+    }
+}
+
+// The bytes that an event shows of a value.
+pub fn part_of(x: Value, from: u32) -> Span
+    ensures { λ r. ⌜ r ≡ partOf x from ⌝ }
+{
+    match x {
+        Value::Scalar(t, s) => scalar_part(t, s, from),
+        Value::Container(v) => Span {
+            start: v.start,
+            len: v.size,
+        },
+    }
+}
+
+fn scalar_extra(s: Scalar) -> u32
+    ensures { λ r. ⌜ r ≡ scalarExtra s ⌝ }
+{
+    match s {
+        Scalar::Null => 0,
+        Scalar::Boolean(_) => 0,
+        Scalar::Number(_) => 0,
+        Scalar::String(_) => 0,
+        Scalar::Opaque(c, _) => widen(c.code()),
+    }
+}
+
+// A container's count, an opaque value's column type, or 0.
+pub fn extra_of(x: Value) -> u32
+    ensures { λ r. ⌜ r ≡ extraOf x ⌝ }
+{
+    match x {
+        Value::Scalar(_, s) => scalar_extra(s),
+        Value::Container(v) => v.count,
+    }
+}
+
+// The event of a value that stands at a spot.
+pub fn event_of(s: Spot, x: Value) -> Event
+    ensures { λ r. ⌜ r ≡ eventOf s x ⌝ }
+{
+    let key = s.key;
+    Event {
+        code: code_of(x),
+        depth: s.depth,
+        position: s.position,
+        key,
+        part: part_of(x, s.from),
+        extra: extra_of(x),
+    }
+}
+
+fn is_valid(r: Utf8Check) -> bool
+    ensures { λ b. ⌜ b ≡ isValid r ⌝ }
+{
+    match r {
+        Utf8Check::Valid => true,
+        Utf8Check::Bad(_) => false,
+    }
+}
+
+// Whether a part of the document is UTF-8.
+pub fn is_text(doc: &[u8], s: Span) -> bool
+    ensures { λ r. ⌜ r ≡ isText (now (doc .entry)) s ⌝ }
+{
+    let start = s.start as usize;
+    let end = start + s.len as usize;
+    if doc.len() < end {
+        return false;
+    }
+    is_valid(utf8::utf8_check(&doc[start..end]))
+}
+
+fn scalar_text(doc: &[u8], s: Scalar) -> bool
+    ensures { λ r. ⌜ r ≡ scalarText (now (doc .entry)) s ⌝ }
+{
+    match s {
+        Scalar::Null => true,
+        Scalar::Boolean(_) => true,
+        Scalar::Number(_) => true,
+        Scalar::String(p) => is_text(doc, p),
+        Scalar::Opaque(_, _) => true,
+    }
+}
+
+fn is_textual(doc: &[u8], x: Value) -> bool
+    ensures { λ r. ⌜ r ≡ isTextual (now (doc .entry)) x ⌝ }
+{
+    match x {
+        Value::Scalar(_, s) => scalar_text(doc, s),
+        Value::Container(_) => true,
+    }
+}
+
+// How many events a list has room for.
+pub fn room_in(out: &[u32]) -> usize
+    ensures { λ r. ⌜ r ≡ room (now (out .entry)) ⌝ }
+{
+    let n = out.len() / 8;
+    if 4294967295 < n {
+        return 4294967295;
+    }
+    n
+}
+
+fn put_event(out: &mut [u32], n: usize, e: Event)
+    requires { ⌜ eventWide * n + eventWide ≤ length (now out) ⌝ }
+    ensures { λ _. ⌜ now (out .exit) ≡ put (now (out .entry)) n e ⌝ }
+{
+    let at = 8 * n;
+    let key = e.key;
+    let part = e.part;
+    out[at] = e.code;
+    out[at + 1] = e.depth;
+    out[at + 2] = e.position;
+    out[at + 3] = key.start;
+    out[at + 4] = key.len;
+    out[at + 5] = part.start;
+    out[at + 6] = part.len;
+    out[at + 7] = e.extra;
+}
+
+// Lists one value, without what is below it: 9 for a string that is no text, then 12 where there is no room.
+pub fn list_value(doc: &[u8], out: &mut [u32], n: usize, s: Spot, x: Value) -> Walked
+    ensures { λ r. ⌜ lay (node (valueJudged (now (doc .entry)) s (says x)) (s .place) childless) (now (out .entry)) n ≡ laid r (now (out .exit)) ⌝ }
+{
+    if !is_textual(doc, x) {
+        return Walked::Stopped {
+            number: refusal::UTF8,
+            place: s.place,
+            count: n,
+        };
+    }
+    if room_in(out) <= n {
+        return Walked::Stopped {
+            number: refusal::EVENTS,
+            place: s.place,
+            count: n,
+        };
+    }
+    put_event(out, n, event_of(s, x));
+    Walked::Done { count: n + 1 }
+}
