@@ -1,0 +1,99 @@
+-- Paths (document 01, 'The walk'). A path is a list of positions from the root, each below the count of the container that those before it reach; the
+-- empty list is the root's. What stands at a position is what `elemAt` and `keyAt` of the crate jsonb answer there, so that elements define paths.
+-- Assumes nothing.
+use mathlib.Core.Bool.{false, cond}
+use mathlib.Core.List.{List, [], _∷_, _++_, map}
+use Prim.Native.Nat.{ℕ, zero, suc, _<_}
+use lib.Dec.{ltb, eqb}
+use lib.ListN.{length}
+use Rattle.value.specs.declared.View.{View}
+use Rattle.value.specs.declared.Value.{Value}
+use Rattle.value.specs.declared.Value.the-variants as value
+use Rattle.content.specs.Reading.{kind, view}
+use Rattle.entry.specs.Entries.{placeAt, keyPlaceAt, valueStart}
+use Rattle.jsonb.specs.Said.{Said, says, nothing, refuses, readSaid}
+use Rattle.jsonb.specs.Views.{rootRead, elemAt, keyAt}
+use Rattle.events.specs.Events.{noKey}
+use Rattle.events.specs.Judged.{Stand, Judged, bad, judged}
+use Rattle.events.specs.Listing.{Listing, end, node}
+
+-- ---- what stands at the root and at a position of a container. The root has no entry: its place is 0. No value starts at the first byte
+abbrev pub rootStand : List ℕ → Stand
+rootStand d = record { place = 0; keyPlace = 0; key = says noKey; value = readSaid (rootRead d); from = cond (eqb (length d) 0) 0 1 }
+
+abbrev pub child : List ℕ → View → ℕ → Stand
+child d v i =
+    record {
+      place = placeAt v i;
+      keyPlace = keyPlaceAt v i;
+      key = cond (v .kind .object) (keyAt d v i) (says noKey);
+      value = elemAt d v i;
+      from = valueStart d v i;
+    }
+
+-- ---- the container that a value is, and how many positions it has; a scalar has none
+abbrev pub viewOf : Value → View
+viewOf (value.Scalar t s) = view 0 0 0 (kind false false)
+viewOf (value.Container v) = v
+
+abbrev pub countOf : Value → ℕ
+countOf (value.Scalar t s) = 0
+countOf (value.Container v) = v .count
+
+abbrev pub viewIn : Said Value → View
+viewIn (says x) = viewOf x
+viewIn nothing = view 0 0 0 (kind false false)
+viewIn (refuses n) = view 0 0 0 (kind false false)
+
+abbrev pub countIn : Said Value → ℕ
+countIn (says x) = countOf x
+countIn nothing = 0
+countIn (refuses n) = 0
+
+-- from what stands at s, the path leads to what stands at t
+pub data Below (d : List ℕ) : Stand → List ℕ → Stand → Type 0 where
+  here : {s : Stand} → Below d s [] s
+  down : {s t : Stand} {i : ℕ} {π : List ℕ} → i < countIn (s .value) → Below d (child d (viewIn (s .value)) i) π t → Below d s (i ∷ π) t
+
+-- a path comes before its extensions, and otherwise the lower position decides
+pub data Before : List ℕ → List ℕ → Type 0 where
+  prefix : {i : ℕ} {π : List ℕ} → Before [] (i ∷ π)
+  lower : {i j : ℕ} {π ρ : List ℕ} → i < j → Before (i ∷ π) (j ∷ ρ)
+  inside : {i : ℕ} {π ρ : List ℕ} → Before π ρ → Before (i ∷ π) (i ∷ ρ)
+
+-- ---- all paths in order, faulty ones too. Paths of 101 positions are there to be refused
+pub record Item : Type 0 where
+  pub path : List ℕ
+  pub stand : Stand
+
+abbrev pub item : List ℕ → Stand → Item
+item π s = record { path = π; stand = s }
+
+-- an item seen from one level up
+abbrev pub under : ℕ → Item → Item
+under i x = item (i ∷ x .path) (x .stand)
+
+unfoldable pub gather : (ℕ → List Item) → ℕ → ℕ → List Item
+gather f zero i = []
+gather f (suc k) i = f i ++ gather f k (suc i)
+
+-- what stands at s and all below it, with paths of at most so many positions
+unfoldable pub tree : ℕ → List ℕ → Stand → List Item
+tree zero d s = item [] s ∷ []
+tree (suc l) d s = item [] s ∷ gather (λ i. map (under i) (tree l d (child d (viewIn (s .value)) i))) (countIn (s .value)) 0
+
+unfoldable pub paths : List ℕ → List Item
+paths d = tree 101 d (rootStand d)
+
+-- ---- what is said of a path, 11 before all else, and of all paths up to the first fault
+unfoldable pub lastOf : List ℕ → ℕ
+lastOf [] = 0
+lastOf (i ∷ []) = i
+lastOf (i ∷ j ∷ π) = lastOf (j ∷ π)
+
+unfoldable pub said : List ℕ → Item → Judged
+said d x = cond (ltb 100 (length (x .path))) (bad 11 (x .stand .place)) (judged d (length (x .path)) (lastOf (x .path)) (x .stand))
+
+unfoldable pub scan : List ℕ → List Item → Listing
+scan d [] = end
+scan d (x ∷ xs) = node (said d x) (x .stand .place) (λ w. scan d xs)
