@@ -1,1 +1,3 @@
 mod Cases
+mod Node
+mod Going

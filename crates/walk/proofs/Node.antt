@@ -1,0 +1,160 @@
+-- One path and what is below it: what is judged there is laid by itself, and from where it ends what is below the value that was read.
+--     next, lay-then          a listing after another is laid where the first ends
+--     below, apart            what is below a value that was read, and a path with it
+--     array-so and others     what a value is by what it leads to
+-- Assumes nothing.
+use mathlib.Core.Path.{_≡_, refl, sym, ap, subst, _∙_}
+use mathlib.Core.Bool.{Bool, true, false, cond}
+use mathlib.Core.List.{List}
+use Prim.Native.Nat.{ℕ, _+_}
+use native.Mathlib.Omega.{arith}
+use lib.Dec.{ltb}
+use Rattle.value.specs.declared.Span.{Span}
+use Rattle.value.specs.declared.View.{View}
+use Rattle.value.specs.declared.Value.{Value}
+use Rattle.value.specs.declared.Value.the-variants as value
+use Rattle.content.specs.declared.Read.{Read}
+use Rattle.content.specs.declared.Read.the-variants as read
+use Rattle.jsonb.specs.Said.{Said, says, nothing, refuses, readSaid}
+use Rattle.jsonb.specs.Views.{rootRead}
+use Rattle.events.specs.declared.Spot.{Spot}
+use Rattle.events.specs.declared.Walked.{Walked}
+use Rattle.events.specs.declared.Walked.the-variants.{Done, Stopped}
+use Rattle.events.specs.Events.{eventOf}
+use Rattle.events.specs.Text.{isText, isTextual}
+use Rattle.events.specs.Judged.{Stand, Judged, bad, good, spot, valueJudged, keyJudged, judged}
+use Rattle.events.specs.Listing.{Listing, end, fault, event, _then_, entries, node, childless}
+use Rattle.events.specs.Lay.{Laid, laid, lay, put, room}
+use Rattle.walk.specs.Paths.{rootStand}
+use Rattle.walk.specs.Course.{children, listing, leadsBy, leadsOf, leadsTo}
+use Rattle.walk.specs.declared.Leads.{Leads}
+use Rattle.walk.specs.declared.Leads.the-variants.{Array, Object, Nothing}
+
+-- go on where a listing ended well
+abbrev pub next : Laid → (List ℕ → ℕ → Laid) → Laid
+next (laid (Done m) o) f = f o m
+next (laid (Stopped r p m) o) f = laid (Stopped r p m) o
+
+next-cond : (t : Bool) (x y : Laid) (f : List ℕ → ℕ → Laid) → cond t (next x f) (next y f) ≡ next (cond t x y) f
+next-cond true x y f = refl
+next-cond false x y f = refl
+
+pub lay-then : (a b : Listing) (out : List ℕ) (n : ℕ) → lay (a then b) out n ≡ next (lay a out n) (lay b)
+unfolding lay _then_
+lay-then end b out n = refl
+lay-then (fault r p) b out n = refl
+lay-then (event e p l) b out n =
+    ap (λ (x : Laid). cond (ltb n (room out)) x (laid (Stopped 12 p n) out)) (lay-then l b (put out n e) (n + 1))
+    ∙ next-cond (ltb n (room out)) (lay l (put out n e) (n + 1)) (laid (Stopped 12 p n) out) (lay b)
+
+pub same : {a b : Walked} {o q : List ℕ} → a ≡ b → o ≡ q → laid b q ≡ laid a o
+same {a} {b} {o} {q} e f = ap (λ (w : Walked). laid w q) (sym e) ∙ ap (λ (l : List ℕ). laid a l) (sym f)
+
+-- ---- what is below a value that was read, with so many levels left
+pub below : ℕ → List ℕ → Read → Listing
+below l d (read.Value x) = children l d x
+below l d (read.Refused n) = end
+
+module _ (l : ℕ) (d : List ℕ) (p : ℕ) where
+  -- a path that is judged by a value that was read, and by its key
+  by-value : (s : Spot) (r : Read) → node (valueJudged d s (readSaid r)) p (children l d) ≡ node (valueJudged d s (readSaid r)) p childless then below l d r
+  unfolding _then_ below
+  by-value s (read.Value x) = go (isTextual d x)
+    where
+      go : (b : Bool) → node (cond b (good (eventOf s x) x) (bad 9 (s .place))) p (children l d) ≡ node (cond b (good (eventOf s x) x) (bad 9 (s .place))) p childless then children l d x
+      go true = refl
+      go false = refl
+  by-value s (read.Refused n) = refl
+
+  module _ (depth i : ℕ) (s : Stand) (r : Read) (e : s .value ≡ readSaid r) where
+    abbrev at : Span → Said Value → Judged
+    at k x = valueJudged d (spot depth i (s .place) k (s .from)) x
+
+    by-key : (k : Said Span) → node (keyJudged d depth i s k) p (children l d) ≡ node (keyJudged d depth i s k) p childless then below l d r
+    unfolding _then_
+    by-key (says k) = go (isText d k)
+      where
+        go : (b : Bool) → node (cond b (at k (s .value)) (bad 9 (s .keyPlace))) p (children l d) ≡ node (cond b (at k (s .value)) (bad 9 (s .keyPlace))) p childless then below l d r
+        go true =
+            ap (λ (x : Said Value). node (at k x) p (children l d)) e
+            ∙ by-value (spot depth i (s .place) k (s .from)) r
+            ∙ ap (λ (x : Said Value). node (at k x) p childless then below l d r) (sym e)
+        go false = refl
+    by-key nothing = refl
+    by-key (refuses n) = refl
+
+    -- x is what the path alone was laid to
+    pub apart : (out : List ℕ) (n : ℕ) {x : Laid} → lay (node (judged d depth i s) p childless) out n ≡ x →
+        lay (node (judged d depth i s) p (children l d)) out n ≡ next x (lay (below l d r))
+    apart out n a =
+        ap (λ (m : Listing). lay m out n) (by-key (s .key))
+        ∙ lay-then (node (judged d depth i s) p childless) (below l d r) out n
+        ∙ ap (λ (x : Laid). next x (lay (below l d r))) a
+
+-- ---- what a value leads to tells what is below it
+-- a value that leads to a view is that container, of that kind
+abbrev Is : Leads → Value → Type 0
+Is (Array u) x = (x ≡ value.Container u) × (u .kind .object ≡ false)
+Is (Object u) x = (x ≡ value.Container u) × (u .kind .object ≡ true)
+Is Nothing x = (l : ℕ) (d : List ℕ) → children l d x ≡ end
+
+value-so : (x : Value) → Is (leadsOf x) x
+unfolding children entries
+value-so (value.Scalar t s) = λ l d. refl
+value-so (value.Container v) = go (v .kind .object) refl
+  where
+    go : (b : Bool) → v .kind .object ≡ b → Is (leadsBy v b) (value.Container v)
+    go true k = (refl, k)
+    go false k = (refl, k)
+
+-- of what was read; y is what it leads to as the callee gives it
+abbrev Reads : Leads → Read → Type 0
+Reads (Array u) r = (r ≡ read.Value (value.Container u)) × (u .kind .object ≡ false)
+Reads (Object u) r = (r ≡ read.Value (value.Container u)) × (u .kind .object ≡ true)
+Reads Nothing r = (l : ℕ) (d : List ℕ) → below l d r ≡ end
+
+read-by : (y : Leads) (x : Value) → Is y x → Reads y (read.Value x)
+unfolding below
+read-by (Array u) x h = (ap read.Value (h .0), h .1)
+read-by (Object u) x h = (ap read.Value (h .0), h .1)
+read-by Nothing x h = h
+
+read-so : (r : Read) → Reads (leadsTo r) r
+unfolding below
+read-so (read.Value x) = read-by (leadsOf x) x (value-so x)
+read-so (read.Refused n) = λ l d. refl
+
+so : (r : Read) {y z : Leads} → y ≡ leadsTo r → y ≡ z → Reads z r
+so r ye yz = subst (λ (w : Leads). Reads w r) (sym ye ∙ yz) (read-so r)
+
+module _ (r : Read) {y : Leads} (ye : y ≡ leadsTo r) where
+  pub array-so : {u : View} → y ≡ Array u → (r ≡ read.Value (value.Container u)) × (u .kind .object ≡ false)
+  array-so yz = so r ye yz
+
+  pub object-so : {u : View} → y ≡ Object u → (r ≡ read.Value (value.Container u)) × (u .kind .object ≡ true)
+  object-so yz = so r ye yz
+
+  pub nothing-so : y ≡ Nothing → (l : ℕ) (d : List ℕ) → below l d r ≡ end
+  nothing-so yz = so r ye yz
+
+-- what is below the value, laid; u is the container that it is
+module _ (l : ℕ) (d : List ℕ) (r : Read) (o : List ℕ) (m : ℕ) where
+  pub container-below : {u : View} {x : Laid} → r ≡ read.Value (value.Container u) → lay (children l d (value.Container u)) o m ≡ x → lay (below l d r) o m ≡ x
+  unfolding below
+  container-below e a = ap (λ (y : Read). lay (below l d y) o m) e ∙ a
+
+  pub nothing-below : below l d r ≡ end → lay (below l d r) o m ≡ laid (Done m) o
+  unfolding lay
+  nothing-below e = ap (λ (y : Listing). lay y o m) e
+
+-- ---- the root, listed by itself and then below
+pub root-stopped : (d out : List ℕ) (r : Read) {w : Walked} {o : List ℕ} {q p m : ℕ} → r ≡ rootRead d →
+    lay (node (judged d 0 0 (rootStand d)) 0 childless) out 0 ≡ laid w o → w ≡ Stopped q p m → lay (listing d) out 0 ≡ laid w o
+unfolding listing
+root-stopped d out r {o = o} re a b =
+    apart 100 d 0 0 0 (rootStand d) r (ap readSaid (sym re)) out 0 (a ∙ ap (λ (x : Walked). laid x o) b) ∙ ap (λ (x : Walked). laid x o) (sym b)
+
+pub root-done : (d out : List ℕ) (r : Read) {w : Walked} {o : List ℕ} {m : ℕ} {x : Laid} → r ≡ rootRead d →
+    lay (node (judged d 0 0 (rootStand d)) 0 childless) out 0 ≡ laid w o → w ≡ Done m → lay (below 100 d r) o m ≡ x → lay (listing d) out 0 ≡ x
+unfolding listing
+root-done d out r {o = o} re a b c = apart 100 d 0 0 0 (rootStand d) r (ap readSaid (sym re)) out 0 (a ∙ ap (λ (x : Walked). laid x o) b) ∙ c
