@@ -1,3 +1,7 @@
 mod Cases
 mod Node
 mod Going
+pub mod Laid
+pub mod Whole
+pub mod Scan
+pub mod Bridge
