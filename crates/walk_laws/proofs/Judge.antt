@@ -1,0 +1,159 @@
+-- What is said of a path: its event where it is good, and otherwise its first fault in document 01's order. Of a path that leads anywhere one of the two
+-- is so, since below a container's count there is no nothing.
+-- Assumes nothing.
+use mathlib.Core.Path.{_≡_, refl, sym, ap, _∙_, subst}
+use mathlib.Core.Bool.{Bool, true, false, cond}
+use mathlib.Core.Logic.{_⊎_, inl, inr}
+use mathlib.Core.List.{List}
+use Prim.Native.Nat.{ℕ, _≤_}
+use native.Mathlib.Omega.{arith}
+use lib.Dec.{ltb}
+use lib.ListN.{length}
+use borrow.Author.Tests.{ltb-true, ltb-false}
+use Rattle.value.specs.declared.View.{View}
+use Rattle.value.specs.declared.Span.{Span}
+use Rattle.value.specs.declared.Value.{Value}
+use Rattle.content.specs.declared.Read.{Read}
+use Rattle.content.specs.declared.Read.the-variants as read
+use Rattle.content.specs.declared.Part.{Part}
+use Rattle.content.specs.declared.Part.the-variants as part
+use Rattle.entry.specs.Entries.{entryRead, keyRead}
+use Rattle.jsonb.specs.Said.{Said, says, nothing, refuses, readSaid, partSaid}
+use Rattle.jsonb.specs.Views.{rootRead}
+use Rattle.events.specs.declared.Spot.{Spot}
+use Rattle.events.specs.Events.{noKey, eventOf}
+use Rattle.events.specs.Text.{isText, isTextual}
+use Rattle.events.specs.Judged.{Stand, Judged, bad, good, spot, valueJudged, keyJudged, judged}
+use Rattle.walk.specs.Paths.{viewIn, Below, here, down, Item, lastOf, said}
+use Rattle.walk.specs.Course.{entryStand}
+use Rattle.walk.proofs.Whole.{SaidStands, root-stands, elem-stands, entry-child}
+use Rattle.walk.proofs.Scan.{said-deep, said-near}
+use Rattle.walk_laws.specs.Promise.{Leads, keyIn, valueIn, eventAt, Good, Wrong, deep, key-refused, key-octets, value-refused, value-octets}
+use Rattle.walk_laws.proofs.Text.{text-test, value-test, refuted, denied}
+
+-- ---- a path by its key and its value
+module _ (d : List ℕ) (depth i : ℕ) (s : Stand) where
+  abbrev of-key : Said Span → Judged
+  of-key k = keyJudged d depth i s k
+
+  judged-no-key : {f : ℕ} → s .key ≡ refuses f → judged d depth i s ≡ bad f (s .keyPlace)
+  judged-no-key e = ap of-key e
+
+  module _ {k : Span} (ke : s .key ≡ says k) where
+    abbrev at : Spot
+    at = spot depth i (s .place) k (s .from)
+
+    by-key : {b : Bool} → isText d k ≡ b → judged d depth i s ≡ cond b (valueJudged d at (s .value)) (bad 9 (s .keyPlace))
+    by-key t = ap of-key ke ∙ ap (λ (c : Bool). cond c (valueJudged d at (s .value)) (bad 9 (s .keyPlace))) t
+
+    module _ (t : isText d k ≡ true) where
+      judged-no-value : {f : ℕ} → s .value ≡ refuses f → judged d depth i s ≡ bad f (s .place)
+      judged-no-value e = by-key t ∙ ap (valueJudged d at) e
+
+      by-value : {y : Value} {b : Bool} → s .value ≡ says y → isTextual d y ≡ b →
+          judged d depth i s ≡ cond b (good (eventOf at y) y) (bad 9 (s .place))
+      by-value {y} e u = by-key t ∙ ap (valueJudged d at) e ∙ ap (λ (c : Bool). cond c (good (eventOf at y) y) (bad 9 (s .place))) u
+
+-- ---- what is said
+module _ (d : List ℕ) (x : Item) where
+  abbrev long : ℕ
+  long = length (x .path)
+
+  abbrev last : ℕ
+  last = lastOf (x .path)
+
+  pub good-said : Good d x → said d x ≡ good (eventAt x) (valueIn (x .stand .value))
+  good-said g =
+      let r = g .readable in
+      let e : says (r .key) ≡ x .stand .key = sym (r .keySaid) in
+      let f : says (r .value) ≡ x .stand .value = sym (r .valueSaid) in
+      said-near d x (g .near)
+      ∙ by-value d long last (x .stand) (r .keySaid) (text-test d (r .key) .1 (r .keyUtf8)) (r .valueSaid) (value-test d (r .value) .1 (r .valueUtf8))
+      ∙ ap (λ (k : Said Span). good (eventOf (spot long last (x .stand .place) (keyIn k) (x .stand .from)) (r .value)) (r .value)) e
+      ∙ ap (λ (y : Said Value).
+      good (eventOf (spot long last (x .stand .place) (keyIn (x .stand .key)) (x .stand .from)) (valueIn y)) (valueIn y)) f
+
+  pub wrong-said : {f p : ℕ} → Wrong d x f p → said d x ≡ bad f p
+  wrong-said (deep h) = said-deep d x h
+  wrong-said (key-refused h e) = said-near d x h ∙ judged-no-key d long last (x .stand) e
+  wrong-said (key-octets {k = k} h e n) = said-near d x h ∙ by-key d long last (x .stand) e (denied (text-test d k) n)
+  wrong-said (value-refused {k = k} h e u q) = said-near d x h ∙ judged-no-value d long last (x .stand) e (text-test d k .1 u) q
+  wrong-said (value-octets {k = k} {y = y} h e u q n) =
+      said-near d x h ∙ by-value d long last (x .stand) e (text-test d k .1 u) q (denied (value-test d y) n)
+
+-- ---- every path that leads anywhere is good or wrong
+pub record Answered (s : Stand) : Type 0 where
+  pub key : s .key ≡ nothing → ⊥
+  pub value : s .value ≡ nothing → ⊥
+
+abbrev Verdict : List ℕ → Item → Type 0
+Verdict d x = Good d x ⊎ ((f : ℕ) × ((p : ℕ) × Wrong d x f p))
+
+module _ (d : List ℕ) (x : Item) (a : Answered (x .stand)) (h : length (x .path) ≤ 100) where
+  module _ (k : Span) (ke : x .stand .key ≡ says k) (t : isText d k ≡ true) where
+    by-text : (y : Value) → x .stand .value ≡ says y → (b : Bool) → isTextual d y ≡ b → Verdict d x
+    by-text y e true u =
+        inl
+        record {
+          near = h;
+          readable =
+              record {
+                key = k;
+                keySaid = ke;
+                keyUtf8 = text-test d k .0 t;
+                value = y;
+                valueSaid = e;
+                valueUtf8 = value-test d y .0 u;
+              };
+        }
+    by-text y e false u = inr (9, (x .stand .place, value-octets h ke (text-test d k .0 t) e (refuted (value-test d y) u)))
+
+    by-said : (y : Said Value) → x .stand .value ≡ y → Verdict d x
+    by-said (says y) e = by-text y e (isTextual d y) refl
+    by-said nothing e = absurd (a .value e)
+    by-said (refuses n) e = inr (n, (x .stand .place, value-refused h ke (text-test d k .0 t) e))
+
+  by-key-text : (k : Span) → x .stand .key ≡ says k → (b : Bool) → isText d k ≡ b → Verdict d x
+  by-key-text k ke true t = by-said k ke t (x .stand .value) refl
+  by-key-text k ke false t = inr (9, (x .stand .keyPlace, key-octets h ke (refuted (text-test d k) t)))
+
+  by-key-said : (k : Said Span) → x .stand .key ≡ k → Verdict d x
+  by-key-said (says k) e = by-key-text k e (isText d k) refl
+  by-key-said nothing e = absurd (a .key e)
+  by-key-said (refuses n) e = inr (n, (x .stand .keyPlace, key-refused h e))
+
+pub verdict : (d : List ℕ) (x : Item) → Answered (x .stand) → Good d x ⊎ ((f : ℕ) × ((p : ℕ) × Wrong d x f p))
+verdict d x a = go (ltb 100 (length (x .path))) refl
+  where
+    go : (b : Bool) → ltb 100 (length (x .path)) ≡ b → Verdict d x
+    go true q = inr (11, (x .stand .place, deep (ltb-true 100 (length (x .path)) q)))
+    go false q = by-key-said d x a (ltb-false 100 (length (x .path)) q) (x .stand .key) refl
+
+-- ---- a path that leads anywhere is answered
+read-answered : (r : Read) → readSaid r ≡ nothing → ⊥
+read-answered (read.Value x) e = let z : _≡_ {A = ℕ} 0 1 = cc in omega arith
+read-answered (read.Refused n) e = let z : _≡_ {A = ℕ} 0 1 = cc in omega arith
+
+part-answered : (p : Part) → partSaid p ≡ nothing → ⊥
+part-answered (part.Bytes s) e = let z : _≡_ {A = ℕ} 0 1 = cc in omega arith
+part-answered (part.Refused n) e = let z : _≡_ {A = ℕ} 0 1 = cc in omega arith
+
+says-answered : {A : Type 0} (x : A) → says x ≡ nothing → ⊥
+says-answered x e = let z : _≡_ {A = ℕ} 0 1 = cc in omega arith
+
+module _ (d : List ℕ) where
+  entry-answered : (v : View) (i : ℕ) → Answered (entryStand d v i)
+  entry-answered v i = record { key = go (v .kind .object); value = read-answered (entryRead d v i) }
+    where
+      go : (b : Bool) → cond b (partSaid (keyRead d v i)) (says noKey) ≡ nothing → ⊥
+      go true e = part-answered (keyRead d v i) e
+      go false e = says-answered noKey e
+
+  below-answered : {s t : Stand} {π : List ℕ} → SaidStands d (s .value) → Answered s → Below d s π t → Answered t
+  below-answered w a here = a
+  below-answered {s = s} w a (down {i = i} h b) =
+      below-answered (elem-stands d (viewIn (s .value)) i)
+      (subst Answered (entry-child d (s .value) w i h) (entry-answered (viewIn (s .value)) i)) b
+
+  pub leads-answered : {π : List ℕ} {s : Stand} → Leads d π s → Answered s
+  leads-answered b = below-answered (root-stands d) (record { key = says-answered noKey; value = read-answered (rootRead d) }) b

@@ -1,0 +1,216 @@
+-- The theorem of the walk (document 01, 'The walk'). `Walks d out r left`, the promise of the code, is about a document d, a lent list `out`, the answer r
+-- and what is `left` in the lent list. Its meaning is said here without the order of any computing: which paths there are, which can be read, when a walk
+-- of them succeeds and what it then leaves, and where it stops otherwise. The statements stand at the end; proofs/Theorem.antt proves them together.
+-- Assumes nothing.
+use Prim.Native.Nat.{ℕ, _+_, _*_, _-_, _≤_, _<_}
+use mathlib.Core.Path.{_≡_}
+use mathlib.Core.Bool.{true, cond}
+use mathlib.Core.Logic.{_↔_, _⊎_}
+use mathlib.Core.List.{List, [], _∷_, _++_, map, List·Memᴰ}
+use lib.Dec.{eqb}
+use lib.ListN.{length, take, drop}
+use Rattle.utf8.specs.Rfc3629.{Utf8}
+use Rattle.codes.specs.declared.types.JsonbType.the-variants as type
+use Rattle.value.specs.declared.Span.{Span}
+use Rattle.value.specs.declared.Scalar.{Scalar}
+use Rattle.value.specs.declared.Scalar.the-variants as scalar
+use Rattle.value.specs.declared.Value.{Value}
+use Rattle.value.specs.declared.Value.the-variants as value
+use Rattle.jsonb.specs.Said.{Said, says, nothing, refuses}
+use Rattle.events.specs.declared.Event.{Event}
+use Rattle.events.specs.declared.Walked.{Walked}
+use Rattle.events.specs.declared.Walked.the-variants.{Done, Stopped}
+use Rattle.events.specs.Events.{noKey, eventOf, numbers, wide}
+use Rattle.events.specs.Text.{bytes, isText}
+use Rattle.events.specs.Judged.{Stand, spot}
+use Rattle.events.specs.Lay.{room}
+use Rattle.walk.specs.Paths.{rootStand, Below, Before, Item, item, lastOf}
+use Rattle.walk.specs.Shown.{Walks}
+
+-- ---- keys and strings are UTF-8: the part lies in the document, and its bytes are in RFC 3629's grammar
+pub record IsUtf8 (d : List ℕ) (s : Span) : Type 0 where
+  pub inside : s .start + s .len ≤ length d
+  pub octets : Utf8 (bytes d s)
+
+-- of values, strings alone are text
+abbrev pub ScalarUtf8 : List ℕ → Scalar → Type 0
+ScalarUtf8 d scalar.Null = Unit {0}
+ScalarUtf8 d (scalar.Boolean b) = Unit {0}
+ScalarUtf8 d (scalar.Number x) = Unit {0}
+ScalarUtf8 d (scalar.String s) = IsUtf8 d s
+ScalarUtf8 d (scalar.Opaque c s) = Unit {0}
+
+abbrev pub ValueUtf8 : List ℕ → Value → Type 0
+ValueUtf8 d (value.Scalar t s) = ScalarUtf8 d s
+ValueUtf8 d (value.Container v) = Unit {0}
+
+-- ---- the path leads from the root to what stands at s: each position is below the count of the container that those before it reach
+abbrev pub Leads : List ℕ → List ℕ → Stand → Type 0
+Leads d π s = Below d (rootStand d) π s
+
+-- a key, where there is to be one, and a value are said, and they are UTF-8 where they are text
+pub record Readable (d : List ℕ) (s : Stand) : Type 0 where
+  pub key : Span
+  pub keySaid : s .key ≡ says key
+  pub keyUtf8 : IsUtf8 d key
+  pub value : Value
+  pub valueSaid : s .value ≡ says value
+  pub valueUtf8 : ValueUtf8 d value
+
+-- every path can be read, and none is longer than 100
+pub record AllRead (d : List ℕ) : Type 0 where
+  pub readable : {π : List ℕ} {s : Stand} → Leads d π s → Readable d s
+  pub near : {π : List ℕ} {s : Stand} → Leads d π s → length π ≤ 100
+
+-- ---- paths in order: a path before its extensions, and otherwise by position. No path is before itself, so each stands there once
+unfoldable pub Ascending : List Item → Type 0
+Ascending [] = Unit {0}
+Ascending (x ∷ xs) = ((y : Item) → List·Memᴰ y xs → Before (x .path) (y .path)) × Ascending xs
+
+-- all paths of some kind and no other, in order, and what they lead to
+pub record Lists (d : List ℕ) (kind : List ℕ → Type 0) (xs : List Item) : Type 0 where
+  pub all : {π : List ℕ} {s : Stand} → Leads d π s → kind π → List·Memᴰ (item π s) xs
+  pub only : (x : Item) → List·Memᴰ x xs → Leads d (x .path) (x .stand)
+  pub those : (x : Item) → List·Memᴰ x xs → kind (x .path)
+  pub order : Ascending xs
+
+-- every path, whether or not others share its bytes or its key
+abbrev pub Everything : List ℕ → List Item → Type 0
+Everything d xs = Lists d (λ π. Unit {0}) xs
+
+-- the paths of at most 101 positions: where one has 101, a walk stops there or earlier
+abbrev pub UpTo101 : List ℕ → List Item → Type 0
+UpTo101 d xs = Lists d (λ π. length π ≤ 101) xs
+
+-- ---- events
+-- a path that can be read has a key and a value, and what stands here for others is never shown
+abbrev pub keyIn : Said Span → Span
+keyIn (says k) = k
+keyIn nothing = noKey
+keyIn (refuses n) = noKey
+
+abbrev pub valueIn : Said Value → Value
+valueIn (says x) = x
+valueIn nothing = value.Scalar type.Literal scalar.Null
+valueIn (refuses n) = value.Scalar type.Literal scalar.Null
+
+-- the event of a path: its length, its last position, its key, its value
+abbrev pub eventAt : Item → Event
+eventAt x =
+    eventOf (spot (length (x .path)) (lastOf (x .path)) (x .stand .place) (keyIn (x .stand .key)) (x .stand .from))
+    (valueIn (x .stand .value))
+
+unfoldable pub eventsOf : List Item → List ℕ
+eventsOf [] = []
+eventsOf (x ∷ xs) = numbers (eventAt x) ++ eventsOf xs
+
+-- how events in order name paths, by depth and position: a path has its depth's positions, the last is its own, and those before it are the first of the
+-- path before it
+abbrev pub nameAfter : List ℕ → ℕ → ℕ → List ℕ
+nameAfter π depth i = cond (eqb depth 0) [] (take (depth - 1) π ++ i ∷ [])
+
+unfoldable pub namesAfter : List ℕ → List Event → List (List ℕ)
+namesAfter π [] = []
+namesAfter π (e ∷ es) = nameAfter π (e .depth) (e .position) ∷ namesAfter (nameAfter π (e .depth) (e .position)) es
+
+-- a lent list with the events of paths at its front and the rest as it was
+abbrev pub written : List Item → List ℕ → List ℕ
+written xs out = eventsOf xs ++ drop (wide * length xs) out
+
+-- ---- what is wrong with a path, by its number and its place: 11, the key 5, the key 9, the value, a string 9; each where those before it are not
+pub data Wrong (d : List ℕ) (x : Item) : ℕ → ℕ → Type 0 where
+  deep : 100 < length (x .path) → Wrong d x 11 (x .stand .place)
+  key-refused : {f : ℕ} → length (x .path) ≤ 100 → x .stand .key ≡ refuses f → Wrong d x f (x .stand .keyPlace)
+  key-octets : {k : Span} → length (x .path) ≤ 100 → x .stand .key ≡ says k → (IsUtf8 d k → ⊥) → Wrong d x 9 (x .stand .keyPlace)
+  value-refused : {k : Span} {f : ℕ} → length (x .path) ≤ 100 → x .stand .key ≡ says k → IsUtf8 d k → x .stand .value ≡ refuses f →
+      Wrong d x f (x .stand .place)
+  value-octets : {k : Span} {y : Value} → length (x .path) ≤ 100 → x .stand .key ≡ says k → IsUtf8 d k → x .stand .value ≡ says y →
+      (ValueUtf8 d y → ⊥) → Wrong d x 9 (x .stand .place)
+
+-- a path that is listed
+pub record Good (d : List ℕ) (x : Item) : Type 0 where
+  pub near : length (x .path) ≤ 100
+  pub readable : Readable d (x .stand)
+
+-- after n events, with room for k, a walk stops at a path: it is wrong, or there is no room for its event, 12
+pub data StopsAt (d : List ℕ) (k n : ℕ) (x : Item) : ℕ → ℕ → Type 0 where
+  wrong : {f p : ℕ} → n ≤ k → Wrong d x f p → StopsAt d k n x f p
+  full : n ≡ k → Good d x → StopsAt d k n x 12 (x .stand .place)
+
+-- of paths in order the first n are good, and at the one after them the walk stops
+pub record Halt (d : List ℕ) (xs : List Item) (k f p n : ℕ) : Type 0 where
+  pub before : List Item
+  pub at : Item
+  pub after : List Item
+  pub split : xs ≡ before ++ at ∷ after
+  pub count : n ≡ length before
+  pub good : (y : Item) → List·Memᴰ y before → Good d y
+  pub stops : StopsAt d k n at f p
+
+-- ---- the statements
+-- a walk succeeds exactly when every path can be read, none is longer than 100, and there is room for one event for each path
+pub record Room (d out : List ℕ) : Type 0 where
+  pub paths : List Item
+  pub every : Everything d paths
+  pub fits : length paths ≤ room out
+
+abbrev pub Success : Type 0
+Success = (d out : List ℕ) (r : Walked) (left : List ℕ) → Walks d out r left → ((n : ℕ) × (r ≡ Done n)) ↔ (AllRead d × Room d out)
+
+-- its events then name every path, each once and in order, and no other; the rest of the lent list is as it was
+pub record Listed (xs : List Item) (out : List ℕ) (n : ℕ) (left : List ℕ) : Type 0 where
+  pub count : n ≡ length xs
+  pub leaves : left ≡ written xs out
+  pub names : namesAfter [] (map eventAt xs) ≡ map (λ x. x .path) xs
+
+abbrev pub Listing : Type 0
+Listing = (d out : List ℕ) (n : ℕ) (left : List ℕ) → Walks d out (Done n) left → (xs : List Item) → Everything d xs → Listed xs out n left
+
+-- a walk is refused with a number and a place after n events exactly when the first path in order that is wrong or finds no room says so
+abbrev pub Refusal : Type 0
+Refusal = (d out : List ℕ) (r : Walked) (left : List ℕ) → Walks d out r left → (xs : List Item) → UpTo101 d xs → (f p n : ℕ) →
+    (r ≡ Stopped f p n) ↔ Halt d xs (room out) f p n
+
+-- the n events before it stand at the front, and the rest of the lent list is as it was
+abbrev pub Untouched : Type 0
+Untouched = (d out : List ℕ) (f p n : ℕ) (left : List ℕ) → Walks d out (Stopped f p n) left → (xs : List Item) → UpTo101 d xs →
+    (h : Halt d xs (room out) f p n) → left ≡ written (h .before) out
+
+-- there are such lists of paths, and no two: the promise is about one list
+abbrev pub Paths : Type 0
+Paths = (d : List ℕ) → ((xs : List Item) × UpTo101 d xs) × (AllRead d → (xs : List Item) × Everything d xs)
+
+abbrev pub OneList : Type 1
+OneList = (d : List ℕ) (kind : List ℕ → Type 0) (xs ys : List Item) → Lists d kind xs → Lists d kind ys → xs ≡ ys
+
+-- and a path leads to one place only
+abbrev pub OnePlace : Type 0
+OnePlace = (d π : List ℕ) (s t : Stand) → Leads d π s → Leads d π t → s ≡ t
+
+-- the order is strict and total, and in a list in order no path stands twice
+pub record StrictOrder : Type 0 where
+  pub irreflexive : (π : List ℕ) → Before π π → ⊥
+  pub transitive : {π ρ σ : List ℕ} → Before π ρ → Before ρ σ → Before π σ
+  pub total : (π ρ : List ℕ) → Before π ρ ⊎ ((π ≡ ρ) ⊎ Before ρ π)
+  pub once : (ws : List Item) (x y : Item) (xs ys : List Item) → Ascending (ws ++ x ∷ (xs ++ y ∷ ys)) → x .path ≡ y .path → ⊥
+
+-- two answers that the promise allows are equal
+abbrev pub OneAnswer : Type 0
+OneAnswer = (d out : List ℕ) (r q : Walked) (left rest : List ℕ) → Walks d out r left → Walks d out q rest → (r ≡ q) × (left ≡ rest)
+
+-- the code's test of text is RFC 3629's grammar
+abbrev pub TextTest : Type 0
+TextTest = (d : List ℕ) (s : Span) → (isText d s ≡ true) ↔ IsUtf8 d s
+
+-- together
+pub record WalkTheorem : Type 1 where
+  pub success : Success
+  pub listing : Listing
+  pub refusal : Refusal
+  pub untouched : Untouched
+  pub lists : Paths
+  pub one-list : OneList
+  pub one-place : OnePlace
+  pub strict-order : StrictOrder
+  pub one-answer : OneAnswer
+  pub text-test : TextTest
