@@ -7,7 +7,6 @@ use mathlib.Core.Path.{_≡_, refl, sym, ap, subst, _∙_}
 use mathlib.Core.Bool.{Bool, true, false, cond}
 use mathlib.Core.List.{List}
 use Prim.Native.Nat.{ℕ, _+_}
-use native.Mathlib.Omega.{arith}
 use lib.Dec.{ltb}
 use Rattle.value.specs.declared.Span.{Span}
 use Rattle.value.specs.declared.View.{View}

@@ -17,7 +17,8 @@ enum-told : tie.Need-enum-told
 enum-told c = search needs
 
 returns : tie.Need-returns
-returns c = c .scalar-text .ensures ∙ ap (isTextual (now (c .before .before .before .before .before .args .doc))) (sym (c .before .before .x .given .1))
+returns c =
+    c .scalar-text .ensures ∙ ap (isTextual (now (c .before .before .before .before .before .args .doc))) (sym (c .before .before .x .given .1))
 
 returns-2 : tie.Need-returns-2
 returns-2 c = search needs

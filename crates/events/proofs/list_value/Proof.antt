@@ -25,7 +25,8 @@ same-length c = search needs
 returns-2 : tie.Need-returns-2
 returns-2 c =
     let a = c .before .before .before .before .before .before .before .args in
-    no-room (now (a .doc)) (a .s) (a .x) (now (a .out)) (a .n) (c .before .before .before .before .is-textual .ensures) (not-false _ (c .before .before .before .if1 .left))
+    no-room (now (a .doc)) (a .s) (a .x) (now (a .out)) (a .n) (c .before .before .before .before .is-textual .ensures)
+    (not-false _ (c .before .before .before .if1 .left))
     (c .before .room-in .ensures) (c .if2 .taken)
 
 event-of-requires : tie.Need-event-of-requires
@@ -46,8 +47,10 @@ same-length-2 c = search needs
 returns-3 : tie.Need-returns-3
 returns-3 c =
     let a = c .before .before .before .before .before .before .before .before .before .before .before .before .args in
-    put-down (now (a .doc)) (a .s) (a .x) (now (a .out)) (a .n) (c .before .before .before .before .before .before .before .before .before .is-textual .ensures)
-    (not-false _ (c .before .before .before .before .before .before .before .before .if1 .left)) (c .before .before .before .before .before .before .room-in .ensures)
+    put-down (now (a .doc)) (a .s) (a .x) (now (a .out)) (a .n)
+    (c .before .before .before .before .before .before .before .before .before .is-textual .ensures)
+    (not-false _ (c .before .before .before .before .before .before .before .before .if1 .left))
+    (c .before .before .before .before .before .before .room-in .ensures)
     (c .before .before .before .before .before .if2 .left) (c .before .before .before .event-of .ensures) (c .before .before .put-event .ensures)
 
 pub list-value-spec : {M : Type 1} → statement M

@@ -35,7 +35,8 @@ returns-3 : tie.Need-returns-3
 returns-3 c = search needs
 
 returns-4 : tie.Need-returns-4
-returns-4 c = c .is-text .ensures ∙ ap (scalarText (now (c .before .before .before .before .before .args .doc))) (sym (c .before .before .s .given .1))
+returns-4 c =
+    c .is-text .ensures ∙ ap (scalarText (now (c .before .before .before .before .before .args .doc))) (sym (c .before .before .s .given .1))
 
 returns-5 : tie.Need-returns-5
 returns-5 c = search needs

@@ -66,16 +66,29 @@ walk-array-Inv-loop doc out₀ from view levels n₀ i₀ count out n i = Going 
 abbrev walk-array-μ-loop : walk-array-lts.MeasureT-loop
 walk-array-μ-loop doc out₀ from view levels n₀ i₀ count out n i = count - i
 
--- where the arms meet: what an entry and all below it answered
+-- where the arms meet: what an entry and all below it answered; e is the place where the entry is read
 array-came : (t : ℕ) (c : walk-array-lts.At-match2-came (array-claims t) (walk-array-at t) walk-array.Post walk-array-Inv-loop walk-array-μ-loop) →
-    Came (c .before .before .before .before .before .before .before .before .before .before .before .before .before .before .before .args .levels) (c .before .before .before .before .before .before .before .before .before .before .before .before .before .before .before .args .doc .now) (c .before .before .before .before .before .before .before .before .before .before .before .before .before .before .before .args .view) (c .before .before .before .before .before .before .before .before .before .before .before .before .loop .out) (c .before .before .before .before .before .before .before .before .before .before .before .before .loop .n) (c .before .before .before .before .before .before .before .before .before .before .before .before .loop .i) (c .match2 .w) (c .match2 .out)
+    let l = c .before .before .before .before .before .before .before .before .before .before .before .before .loop in
+    let a = c .before .before .before .before .before .before .before .before .before .before .before .before .before .before .before .args in
+    Came (a .levels) (a .doc .now) (a .view) (l .out) (l .n) (l .i) (c .match2 .w) (c .match2 .out)
 array-came t c =
-    came (c .before .before .before .before .before .before .before .before .before .before .before .before .loop .inv) (c .before .before .before .before .before .before .before .before .before .before .before .loop-test .taken) (c .before .before .before .before .before .before .before .before .before .before .if1 .left) (c .before .before .before .before .before .before .before .before .before .before .before .before .before .before .before .pre .1 .0) (c .before .before .before .before .before .before .before .before .before .read-entry .ensures) (c .before .before .before .before .before .before .before .list-element .ensures) (c .before .before .before .own .given .1) (c .before .before .before .before .before .before .before .list-element .kept .1 .0)
+    let e = c .before .before .before .before .before .before .before .before .before in
+    let leads = c .before .leads-to .ensures in
+    came (e .before .before .before .loop .inv) (e .before .before .loop-test .taken) (e .before .if1 .left)
+    (e .before .before .before .before .before .before .pre .1 .0) (e .read-entry .ensures)
+    (c .before .before .before .before .before .before .before .list-element .ensures) (c .before .before .before .own .given .1)
+    (c .before .before .before .before .before .before .before .list-element .kept .1 .0)
     (⊎-elim
-    (λ w. (container-below _ _ _ _ _ (array-so (c .before .before .before .before .before .before .before .before .before .read-entry .result) (c .before .leads-to .ensures) (w .1 .given .1) .0) (w .4 .ensures) ∙ same (w .8) (w .7), ap length (w .7) ∙ w .4 .kept .1 .0))
+    (λ w. (
+      container-below _ _ _ _ _ (array-so (e .read-entry .result) leads (w .1 .given .1) .0) (w .4 .ensures) ∙ same (w .8) (w .7),
+      ap length (w .7) ∙ w .4 .kept .1 .0,
+    ))
     (⊎-elim
-    (λ w. (container-below _ _ _ _ _ (object-so (c .before .before .before .before .before .before .before .before .before .read-entry .result) (c .before .leads-to .ensures) (w .1 .given .1) .0) (w .4 .ensures) ∙ same (w .8) (w .7), ap length (w .7) ∙ w .4 .kept .1 .0))
-    (λ w. (nothing-below _ _ _ _ _ (nothing-so (c .before .before .before .before .before .before .before .before .before .read-entry .result) (c .before .leads-to .ensures) (w .1 .given .1) _ _) ∙ same (w .3) (w .2), ap length (w .2))))
+    (λ w. (
+      container-below _ _ _ _ _ (object-so (e .read-entry .result) leads (w .1 .given .1) .0) (w .4 .ensures) ∙ same (w .8) (w .7),
+      ap length (w .7) ∙ w .4 .kept .1 .0,
+    ))
+    (λ w. (nothing-below _ _ _ _ _ (nothing-so (e .read-entry .result) leads (w .1 .given .1) _ _) ∙ same (w .3) (w .2), ap length (w .2))))
     (c .match2 .came))
 
 -- ---- the walker of objects
@@ -101,16 +114,30 @@ walk-object-Inv-loop doc out₀ from view levels n₀ i₀ count out n i = Going
 abbrev walk-object-μ-loop : walk-object-lts.MeasureT-loop
 walk-object-μ-loop doc out₀ from view levels n₀ i₀ count out n i = count - i
 
--- where the arms meet: what an entry and all below it answered
-object-came : (t : ℕ) (c : walk-object-lts.At-match2-came (object-claims t) (walk-object-at t) walk-object.Post walk-object-Inv-loop walk-object-μ-loop) →
-    Came (c .before .before .before .before .before .before .before .before .before .before .before .before .before .before .before .args .levels) (c .before .before .before .before .before .before .before .before .before .before .before .before .before .before .before .args .doc .now) (c .before .before .before .before .before .before .before .before .before .before .before .before .before .before .before .args .view) (c .before .before .before .before .before .before .before .before .before .before .before .before .loop .out) (c .before .before .before .before .before .before .before .before .before .before .before .before .loop .n) (c .before .before .before .before .before .before .before .before .before .before .before .before .loop .i) (c .match2 .w) (c .match2 .out)
+-- where the arms meet: what an entry and all below it answered; e is the place where the entry is read
+object-came : (t : ℕ)
+    (c : walk-object-lts.At-match2-came (object-claims t) (walk-object-at t) walk-object.Post walk-object-Inv-loop walk-object-μ-loop) →
+    let l = c .before .before .before .before .before .before .before .before .before .before .before .before .loop in
+    let a = c .before .before .before .before .before .before .before .before .before .before .before .before .before .before .before .args in
+    Came (a .levels) (a .doc .now) (a .view) (l .out) (l .n) (l .i) (c .match2 .w) (c .match2 .out)
 object-came t c =
-    came (c .before .before .before .before .before .before .before .before .before .before .before .before .loop .inv) (c .before .before .before .before .before .before .before .before .before .before .before .loop-test .taken) (c .before .before .before .before .before .before .before .before .before .before .if1 .left) (c .before .before .before .before .before .before .before .before .before .before .before .before .before .before .before .pre .1 .0) (c .before .before .before .before .before .before .before .before .before .read-entry .ensures) (c .before .before .before .before .before .before .before .list-member .ensures) (c .before .before .before .own .given .1) (c .before .before .before .before .before .before .before .list-member .kept .1 .0)
+    let e = c .before .before .before .before .before .before .before .before .before in
+    let leads = c .before .leads-to .ensures in
+    came (e .before .before .before .loop .inv) (e .before .before .loop-test .taken) (e .before .if1 .left)
+    (e .before .before .before .before .before .before .pre .1 .0) (e .read-entry .ensures)
+    (c .before .before .before .before .before .before .before .list-member .ensures) (c .before .before .before .own .given .1)
+    (c .before .before .before .before .before .before .before .list-member .kept .1 .0)
     (⊎-elim
-    (λ w. (container-below _ _ _ _ _ (array-so (c .before .before .before .before .before .before .before .before .before .read-entry .result) (c .before .leads-to .ensures) (w .1 .given .1) .0) (w .4 .ensures) ∙ same (w .8) (w .7), ap length (w .7) ∙ w .4 .kept .1 .0))
+    (λ w. (
+      container-below _ _ _ _ _ (array-so (e .read-entry .result) leads (w .1 .given .1) .0) (w .4 .ensures) ∙ same (w .8) (w .7),
+      ap length (w .7) ∙ w .4 .kept .1 .0,
+    ))
     (⊎-elim
-    (λ w. (container-below _ _ _ _ _ (object-so (c .before .before .before .before .before .before .before .before .before .read-entry .result) (c .before .leads-to .ensures) (w .1 .given .1) .0) (w .4 .ensures) ∙ same (w .8) (w .7), ap length (w .7) ∙ w .4 .kept .1 .0))
-    (λ w. (nothing-below _ _ _ _ _ (nothing-so (c .before .before .before .before .before .before .before .before .before .read-entry .result) (c .before .leads-to .ensures) (w .1 .given .1) _ _) ∙ same (w .3) (w .2), ap length (w .2))))
+    (λ w. (
+      container-below _ _ _ _ _ (object-so (e .read-entry .result) leads (w .1 .given .1) .0) (w .4 .ensures) ∙ same (w .8) (w .7),
+      ap length (w .7) ∙ w .4 .kept .1 .0,
+    ))
+    (λ w. (nothing-below _ _ _ _ _ (nothing-so (e .read-entry .result) leads (w .1 .given .1) _ _) ∙ same (w .3) (w .2), ap length (w .2))))
     (c .match2 .came))
 
 pub +walk-array+walk-object-spec : {M : Type 1} → statement M
@@ -126,23 +153,53 @@ pub +walk-array+walk-object-spec : {M : Type 1} → statement M
     (λ c κs. (c .before .read-entry .ensures, c .before .before .before .before .before .before .before .pre .1 .1))
     (λ c. search needs)
     (λ c. search needs)
-    (λ c. c .before .before .before .before .list-element .kept .1 .0 ∙ c .before .before .before .before .before .before .before .before .before .loop .inv .same)
-    (λ c. stopped (c .before .before .before .before .before .before .before .before .before .loop .inv) (c .before .before .before .before .before .before .before .before .loop-test .taken) (c .before .before .before .before .before .before .before .if1 .left) (c .before .before .before .before .before .before .before .before .before .before .before .before .pre .1 .0) (c .before .before .before .before .before .before .read-entry .ensures) (c .before .before .before .before .list-element .ensures) (c .enum-told .given .1))
+    (λ c.
+    let e = c .before .before .before .before .before .before in
+    c .before .before .before .before .list-element .kept .1 .0 ∙ e .before .before .before .loop .inv .same)
+    (λ c.
+    let e = c .before .before .before .before .before .before in
+    stopped (e .before .before .before .loop .inv) (e .before .before .loop-test .taken) (e .before .if1 .left)
+    (e .before .before .before .before .before .before .pre .1 .0) (e .read-entry .ensures)
+    (c .before .before .before .before .list-element .ensures) (c .enum-told .given .1))
     (λ c κs. search needs)
     (λ c. search needs)
     (λ c. search needs)
-    (λ c κs. (omega arith, (omega arith, array-so (c .before .before .before .before .before .before .before .before .before .before .before .before .read-entry .result) (c .before .before .before .before .leads-to .ensures) (c .before .before .u .given .1) .1)))
+    (λ c κs.
+    let e = c .before .before .before .before .before .before .before .before .before .before .before .before in (
+      omega arith,
+      (
+        omega arith,
+        array-so (e .read-entry .result) (c .before .before .before .before .leads-to .ensures)
+            (c .before .before .u .given .1) .1,
+      ),
+    ))
     (λ c. search needs)
     (λ c. search needs)
-    (λ c κs. (omega arith, (omega arith, object-so (c .before .before .before .before .before .before .before .before .before .before .before .before .read-entry .result) (c .before .before .before .before .leads-to .ensures) (c .before .before .u2 .given .1) .1)))
+    (λ c κs.
+    let e = c .before .before .before .before .before .before .before .before .before .before .before .before in (
+      omega arith,
+      (
+        omega arith,
+        object-so (e .read-entry .result) (c .before .before .before .before .leads-to .ensures)
+            (c .before .before .u2 .given .1) .1,
+      ),
+    ))
     (λ c. search needs)
     (λ c. search needs)
     (λ c. search needs)
-    (λ c. array-came t (c .before .before) .kept ∙ c .before .before .before .before .before .before .before .before .before .before .before .before .before .before .loop .inv .same)
-    (λ c. stopped-below (c .before .before .before .before .before .before .before .before .before .before .before .before .before .before .loop .inv) (c .before .before .before .before .before .before .before .before .before .before .before .before .before .loop-test .taken) (array-came t (c .before .before)) (c .enum-told3 .given .1))
+    (λ c.
+    let e = c .before .before .before .before .before .before .before .before .before .before .before in
+    array-came t (c .before .before) .kept ∙ e .before .before .before .loop .inv .same)
+    (λ c.
+    let e = c .before .before .before .before .before .before .before .before .before .before .before in
+    stopped-below (e .before .before .before .loop .inv) (e .before .before .loop-test .taken) (array-came t (c .before .before))
+    (c .enum-told3 .given .1))
     (λ c. search needs)
     (λ c. omega arith)
-    (λ c. on (c .before .before .before .before .before .before .before .before .before .before .before .before .before .before .before .loop .inv) (c .before .before .before .before .before .before .before .before .before .before .before .before .before .before .loop-test .taken) (array-came t (c .before .before .before)) (c .before .w .given .1))
+    (λ c.
+    let e = c .before .before .before .before .before .before .before .before .before .before .before .before in
+    on (e .before .before .before .loop .inv) (e .before .before .loop-test .taken) (array-came t (c .before .before .before))
+    (c .before .w .given .1))
     (λ c. c .before .loop .inv .same)
     (λ c. over (c .before .loop .inv) (c .loop-test .left)))
     (λ t. walk-object-lts.spec (object-claims t) (walk-object-at t) walk-object.Post walk-object-Inv-loop walk-object-μ-loop
@@ -155,22 +212,52 @@ pub +walk-array+walk-object-spec : {M : Type 1} → statement M
     (λ c κs. (c .before .read-entry .ensures, c .before .before .before .before .before .before .before .pre .1 .1))
     (λ c. search needs)
     (λ c. search needs)
-    (λ c. c .before .before .before .before .list-member .kept .1 .0 ∙ c .before .before .before .before .before .before .before .before .before .loop .inv .same)
-    (λ c. stopped (c .before .before .before .before .before .before .before .before .before .loop .inv) (c .before .before .before .before .before .before .before .before .loop-test .taken) (c .before .before .before .before .before .before .before .if1 .left) (c .before .before .before .before .before .before .before .before .before .before .before .before .pre .1 .0) (c .before .before .before .before .before .before .read-entry .ensures) (c .before .before .before .before .list-member .ensures) (c .enum-told .given .1))
+    (λ c.
+    let e = c .before .before .before .before .before .before in
+    c .before .before .before .before .list-member .kept .1 .0 ∙ e .before .before .before .loop .inv .same)
+    (λ c.
+    let e = c .before .before .before .before .before .before in
+    stopped (e .before .before .before .loop .inv) (e .before .before .loop-test .taken) (e .before .if1 .left)
+    (e .before .before .before .before .before .before .pre .1 .0) (e .read-entry .ensures) (c .before .before .before .before .list-member .ensures)
+    (c .enum-told .given .1))
     (λ c κs. search needs)
     (λ c. search needs)
     (λ c. search needs)
-    (λ c κs. (omega arith, (omega arith, array-so (c .before .before .before .before .before .before .before .before .before .before .before .before .read-entry .result) (c .before .before .before .before .leads-to .ensures) (c .before .before .u .given .1) .1)))
+    (λ c κs.
+    let e = c .before .before .before .before .before .before .before .before .before .before .before .before in (
+      omega arith,
+      (
+        omega arith,
+        array-so (e .read-entry .result) (c .before .before .before .before .leads-to .ensures)
+            (c .before .before .u .given .1) .1,
+      ),
+    ))
     (λ c. search needs)
     (λ c. search needs)
-    (λ c κs. (omega arith, (omega arith, object-so (c .before .before .before .before .before .before .before .before .before .before .before .before .read-entry .result) (c .before .before .before .before .leads-to .ensures) (c .before .before .u2 .given .1) .1)))
+    (λ c κs.
+    let e = c .before .before .before .before .before .before .before .before .before .before .before .before in (
+      omega arith,
+      (
+        omega arith,
+        object-so (e .read-entry .result) (c .before .before .before .before .leads-to .ensures)
+            (c .before .before .u2 .given .1) .1,
+      ),
+    ))
     (λ c. search needs)
     (λ c. search needs)
     (λ c. search needs)
-    (λ c. object-came t (c .before .before) .kept ∙ c .before .before .before .before .before .before .before .before .before .before .before .before .before .before .loop .inv .same)
-    (λ c. stopped-below (c .before .before .before .before .before .before .before .before .before .before .before .before .before .before .loop .inv) (c .before .before .before .before .before .before .before .before .before .before .before .before .before .loop-test .taken) (object-came t (c .before .before)) (c .enum-told3 .given .1))
+    (λ c.
+    let e = c .before .before .before .before .before .before .before .before .before .before .before in
+    object-came t (c .before .before) .kept ∙ e .before .before .before .loop .inv .same)
+    (λ c.
+    let e = c .before .before .before .before .before .before .before .before .before .before .before in
+    stopped-below (e .before .before .before .loop .inv) (e .before .before .loop-test .taken) (object-came t (c .before .before))
+    (c .enum-told3 .given .1))
     (λ c. search needs)
     (λ c. omega arith)
-    (λ c. on (c .before .before .before .before .before .before .before .before .before .before .before .before .before .before .before .loop .inv) (c .before .before .before .before .before .before .before .before .before .before .before .before .before .before .loop-test .taken) (object-came t (c .before .before .before)) (c .before .w .given .1))
+    (λ c.
+    let e = c .before .before .before .before .before .before .before .before .before .before .before .before in
+    on (e .before .before .before .loop .inv) (e .before .before .loop-test .taken) (object-came t (c .before .before .before))
+    (c .before .w .given .1))
     (λ c. c .before .loop .inv .same)
     (λ c. over (c .before .loop .inv) (c .loop-test .left)))

@@ -15,7 +15,8 @@ same-length c = search needs
 returns : tie.Need-returns
 returns c =
     let a = c .before .before .before .before .before .before .args in
-    element-listed (now (a .doc)) (a .v) (a .i) (a .depth) (now (a .out)) (a .n) (c .before .before .before .before .before .before .pre .1) (c .before .before .before .before .before .before .pre .0) (c .before .before .list-entry .ensures)
+    element-listed (now (a .doc)) (a .v) (a .i) (a .depth) (now (a .out)) (a .n) (c .before .before .before .before .before .before .pre .1)
+    (c .before .before .before .before .before .before .pre .0) (c .before .before .list-entry .ensures)
 
 pub list-element-spec : {M : Type 1} → statement M
 list-element-spec = tie.close (tie.spec list-entry-requires same-length returns)

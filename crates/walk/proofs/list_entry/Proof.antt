@@ -21,7 +21,12 @@ value-start-requires c κs = search needs
 cast-t16 : tie.Need-cast-t16
 cast-t16 c =
     let a = c .before .before .before .before .before .before .before .before .args in
-    omega (arith, start-small (now (a .doc)) (a .v) (a .i) (sym (c .before .before .before .before .before .before .before .before .pre) ∙ c .before .before .before .r .given .1), c .value-start .ensures)
+    omega (
+      arith,
+      start-small (now (a .doc)) (a .v) (a .i)
+          (sym (c .before .before .before .before .before .before .before .before .pre) ∙ c .before .before .before .r .given .1),
+      c .value-start .ensures,
+    )
 
 list-value-requires : tie.Need-list-value-requires
 list-value-requires c κs = search needs
@@ -35,13 +40,16 @@ same-length c = search needs
 returns : tie.Need-returns
 returns c =
     let a = c .before .before .before .before .before .before .before .before .before .before .before .args in
-    value-listed (now (a .doc)) (a .v) (a .i) (a .depth) (a .key) (now (a .out)) (a .n) (c .before .before .before .before .before .before .before .before .value-place .ensures .0) (c .before .before .before .before .before .before .r .given .1)
+    value-listed (now (a .doc)) (a .v) (a .i) (a .depth) (a .key) (now (a .out)) (a .n)
+    (c .before .before .before .before .before .before .before .before .value-place .ensures .0)
+    (c .before .before .before .before .before .before .r .given .1)
     (c .before .before .before .value-start .ensures) (c .before .before .list-value .ensures)
 
 returns-2 : tie.Need-returns-2
 returns-2 c =
     let a = c .before .before .before .before .before .before .args in
-    value-refused (now (a .doc)) (a .v) (a .i) (a .depth) (a .key) (now (a .out)) (a .n) (c .before .before .before .value-place .ensures .0) (c .before .r2 .given .1)
+    value-refused (now (a .doc)) (a .v) (a .i) (a .depth) (a .key) (now (a .out)) (a .n) (c .before .before .before .value-place .ensures .0)
+    (c .before .r2 .given .1)
 
 pub list-entry-spec : {M : Type 1} → statement M
 list-entry-spec =

@@ -22,7 +22,9 @@ is-text-requires c κs = search needs
 returns : tie.Need-returns
 returns c =
     let a = c .before .before .before .before .before .before .before .before .before .args in
-    key-bad (now (a .doc)) (a .v) (a .i) (a .depth) (now (a .out)) (a .n) (c .before .before .before .before .before .before .before .before .before .pre .1) (c .before .before .before .before .before .read-key .ensures) (c .before .before .before .key .given .1)
+    key-bad (now (a .doc)) (a .v) (a .i) (a .depth) (now (a .out)) (a .n)
+    (c .before .before .before .before .before .before .before .before .before .pre .1)
+    (c .before .before .before .before .before .read-key .ensures) (c .before .before .before .key .given .1)
     (c .before .is-text .ensures) (not-true _ (c .if1 .taken)) (c .before .before .before .before .before .before .key-place .ensures .0)
 
 list-entry-requires : tie.Need-list-entry-requires
@@ -37,13 +39,19 @@ same-length c = search needs
 returns-2 : tie.Need-returns-2
 returns-2 c =
     let a = c .before .before .before .before .before .before .before .before .before .before .before .before .before .args in
-    key-good (now (a .doc)) (a .v) (a .i) (a .depth) (now (a .out)) (a .n) (c .before .before .before .before .before .before .before .before .before .before .before .before .before .pre .1) (c .before .before .before .before .before .before .before .before .before .read-key .ensures) (c .before .before .before .before .before .before .before .key .given .1)
-    (c .before .before .before .before .before .is-text .ensures) (not-false _ (c .before .before .before .before .if1 .left)) (c .before .before .before .before .before .before .before .before .before .before .before .before .before .pre .0) (c .before .before .list-entry .ensures)
+    key-good (now (a .doc)) (a .v) (a .i) (a .depth) (now (a .out)) (a .n)
+    (c .before .before .before .before .before .before .before .before .before .before .before .before .before .pre .1)
+    (c .before .before .before .before .before .before .before .before .before .read-key .ensures)
+    (c .before .before .before .before .before .before .before .key .given .1)
+    (c .before .before .before .before .before .is-text .ensures) (not-false _ (c .before .before .before .before .if1 .left))
+    (c .before .before .before .before .before .before .before .before .before .before .before .before .before .pre .0)
+    (c .before .before .list-entry .ensures)
 
 returns-3 : tie.Need-returns-3
 returns-3 c =
     let a = c .before .before .before .before .before .before .before .args in
-    key-refused (now (a .doc)) (a .v) (a .i) (a .depth) (now (a .out)) (a .n) (c .before .before .before .before .before .before .before .pre .1) (c .before .before .before .read-key .ensures) (c .before .number .given .1)
+    key-refused (now (a .doc)) (a .v) (a .i) (a .depth) (now (a .out)) (a .n) (c .before .before .before .before .before .before .before .pre .1)
+    (c .before .before .before .read-key .ensures) (c .before .number .given .1)
     (c .before .before .before .before .key-place .ensures .0)
 
 pub list-member-spec : {M : Type 1} → statement M

@@ -24,7 +24,9 @@ same-length c = search needs
 returns : tie.Need-returns
 returns c =
     let a = c .before .before .before .before .before .before .before .before .before .before .args in
-    root-listed (now (a .doc)) (now (a .out)) (c .before .before .before .before .before .before .before .before .before .before .pre) (c .before .before .before .before .before .before .r .given .1) (c .before .before .before .root-start .ensures) (c .before .before .list-value .ensures)
+    root-listed (now (a .doc)) (now (a .out)) (c .before .before .before .before .before .before .before .before .before .before .pre)
+    (c .before .before .before .before .before .before .r .given .1) (c .before .before .before .root-start .ensures)
+    (c .before .before .list-value .ensures)
 
 returns-2 : tie.Need-returns-2
 returns-2 c =
