@@ -37,11 +37,11 @@ record Headed (k : Kind) (i e n s : ℕ) : Type 0 where
 no-head : {A : Type 0} {f n s : ℕ} → header.Refused f ≡ header.Whole n s → A
 no-head e = let z : _≡_ {A = ℕ} 0 1 = cc in absurd (omega arith)
 
-read-by : (b : Bool) (h : Header) (f : ℕ) {n s : ℕ} → cond b h (header.Refused f) ≡ header.Whole n s → h ≡ header.Whole n s
+pub read-by : (b : Bool) (h : Header) (f : ℕ) {n s : ℕ} → cond b h (header.Refused f) ≡ header.Whole n s → h ≡ header.Whole n s
 read-by true h f e = e
 read-by false h f e = no-head e
 
-head-by : (a b c : Bool) {n s x y : ℕ} →
+pub head-by : (a b c : Bool) {n s x y : ℕ} →
     cond a (header.Refused 3) (cond b (header.Refused 4) (cond c (header.Refused 4) (header.Whole x y))) ≡ header.Whole n s →
     (a ≡ false) × (b ≡ false) × (c ≡ false) × (x ≡ n) × (y ≡ s)
 head-by true b c e = no-head e
@@ -67,7 +67,7 @@ module _ (d : List ℕ) (k : Kind) (i e n s : ℕ) where
         header = rw (f .3, f .4) at (ltb-false size (headerSize k count) (f .2));
       }
 
-no-truth : {A : Type 0} → false ≡ true → A
+pub no-truth : {A : Type 0} → false ≡ true → A
 no-truth e = let z : _≡_ {A = ℕ} 0 1 = cc in absurd (omega arith)
 
 both : (a b : Bool) → cond a b false ≡ true → (a ≡ true) × (b ≡ true)
@@ -80,7 +80,7 @@ names-so (header.Whole m t) n s e =
     ap (λ (x : ℕ). header.Whole x t) (eqb-true m n (f .0)) ∙ ap (header.Whole n) (eqb-true t s (f .1))
 names-so (header.Refused x) n s e = no-truth e
 
-matched : (d : List ℕ) (v : View) → matches d v ≡ true → headerRead d (v .kind) (v .start) (length d) ≡ header.Whole (v .count) (v .size)
+pub matched : (d : List ℕ) (v : View) → matches d v ≡ true → headerRead d (v .kind) (v .start) (length d) ≡ header.Whole (v .count) (v .size)
 unfolding matches
 matched d v e = names-so (headerRead d (v .kind) (v .start) (length d)) (v .count) (v .size) e
 

@@ -47,6 +47,7 @@ use Rattle.entry.specs.Entries.{endOf, isInlined, placeAt, pointedAt, typedEntr
 use Rattle.jsonb.specs.Views.{typedAt, rootRead, matches, gated, elemAt}
 use Rattle.entry.specs.Entries.{keyOffset, keyLength, keyOf, keyPlaceAt, keyEntryAt}
 use Rattle.jsonb.specs.Views.{keyAt}
+use Rattle.jsonb.proofs.Gates.{no-truth}
 use Rattle.jsonb_laws.specs.Within.{Spans, ScalarInside, Inside}
 
 -- ---- what is read, where it is not refused
@@ -227,9 +228,6 @@ root-in d = go (ltb 16777216 (length d)) (eqb (length d) 0) refl
 
 pub root-inside : (d : List ℕ) (x : Value) → rootRead d ≡ read.Value x → Inside 1 (length d) x
 root-inside d x q = subst (ReadInside 1 (length d)) q (root-in d)
-
-no-truth : {A : Type 0} → false ≡ true → A
-no-truth e = let z : _≡_ {A = ℕ} 0 1 = cc in absurd (omega arith)
 
 -- ---- entries: what stands in the entry itself is a number or a literal
 inlined-in : (lo hi : ℕ) (d : List ℕ) (t : JsonbType) (large : Bool) (i e : ℕ) → isInlined t large ≡ true → ReadInside lo hi (contentAt d t i e)

@@ -1,3 +1,4 @@
 pub mod Iteration
 pub mod Inside
+pub mod OwnEnd
 pub mod SameFront

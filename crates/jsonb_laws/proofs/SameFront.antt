@@ -1,16 +1,18 @@
--- A document that differs only past the end of a view gives the same answers for that view: no definition reads a byte at the end or past it.
+-- A document that differs only past the end of a view gives the same answers for that view: no definition reads a byte at the end or past it, and
+-- whether the view is a container's is decided there too.
 -- Assumes nothing.
 use mathlib.Core.Path.{_≡_, refl, sym, ap, _∙_}
 use mathlib.Core.Bool.{Bool, true, false, cond, not}
 use mathlib.Core.List.{List}
-use Prim.Native.Nat.{ℕ, _+_, _≤_, _<_}
+use Prim.Native.Nat.{ℕ, zero, suc, _+_, _≤_, _<_}
+use native.Mathlib.Nat.{le-refl}
 use native.Mathlib.Omega.{arith}
-use lib.Dec.{leb}
-use lib.ListN.{length, getD, take, drop}
+use lib.Dec.{leb, eqb}
+use lib.ListN.{length, getD, take, drop, length-take}
 use lib.Seq.{getD-take, take-take}
 use mir.Syntax.{w16, w32, w64}
 use mir.Val.{toZ}
-use borrow.Author.Tests.{leb-false, le-ltb, lt-leb}
+use borrow.Author.Tests.{leb-false, le-ltb, lt-leb, eq-eqb}
 use Rattle.raw.specs.Numbers.{le}
 use Rattle.raw.specs.Length.{groups}
 use Rattle.raw.proofs.Bounds.{le-same}
@@ -23,7 +25,7 @@ use Rattle.codes.specs.declared.types.TypeOf.{TypeOf}
 use Rattle.codes.specs.declared.types.TypeOf.the-variants as type-of
 use Rattle.layout.specs.Layout.{offsetSize, headerSize, offsetAt, keyPlace}
 use Rattle.content.specs.Reading.{kind, headerAt, viewed, literalOf, literalAt, numberAt, doubleOf, parted, partAt, partOf, stringAt, opaqueOf, opaqueAt}
-use Rattle.content.specs.Reading.{contentAt, placeFault, readAt}
+use Rattle.content.specs.Reading.{contentAt, placeFault, readAt, headerRead}
 use Rattle.layout.specs.declared.Kind.{Kind}
 use Rattle.value.specs.declared.View.{View}
 use Rattle.value.specs.declared.Number.{Number}
@@ -31,16 +33,21 @@ use Rattle.value.specs.declared.Number.the-variants.{Int, Uint}
 use Rattle.value.specs.declared.Scalar.the-variants as scalar
 use Rattle.content.specs.declared.Read.the-variants.{Refused}
 use Rattle.content.specs.declared.Part.{Part}
+use Rattle.content.specs.declared.Header.{Header}
+use Rattle.content.specs.declared.Header.the-variants as header
+use Rattle.content.proofs.Placed.{placed-within}
 use Rattle.value.specs.declared.Span.{Span}
 use Rattle.value.specs.declared.Value.{Value}
 use Rattle.jsonb.specs.Said.{Said, nothing, refuses, readSaid, partSaid}
 use Rattle.entry.specs.Entries.{endOf, placeAt, pointedAt, typedEntry, entryOf, entryAt, keyOf, keyEntryAt}
-use Rattle.jsonb.specs.Views.{matches, gated, elemAt, keyAt, countAt}
-use Rattle.jsonb.specs.Steps.{memberOf, elementItem, keyItem, memberItem}
+use Rattle.jsonb.specs.Views.{names, matches, gated, elemAt, keyAt, countAt}
+use Rattle.jsonb.specs.Steps.{isOpen, after, memberOf, elementItem, keyItem, memberItem}
 use Rattle.jsonb.specs.Course.{Whole, gateOf}
 use Rattle.jsonb.specs.declared.gate.Gate.the-variants.{Open}
 use Rattle.layout.proofs.Inside.{value-inside}
-use Rattle.jsonb.proofs.Gates.{open-whole}
+use Rattle.jsonb.proofs.Gates.{no-truth, read-by, matched, open-whole}
+use Rattle.jsonb_laws.specs.Walked.{stepsTo}
+use Rattle.jsonb_laws.proofs.OwnEnd.{header-ends, header-again}
 
 -- ---- up to an end e, at which the documents are not yet different
 module _ (a b : List ℕ) (e : ℕ) (s : take e a ≡ take e b) where
@@ -142,7 +149,7 @@ module _ (a b : List ℕ) (v : View) (s : take (endOf v) a ≡ take (endOf v) b)
         ap (λ (n : ℕ). entryOf a v (typeOf n) (placeAt v i + 1)) (byte-same a b (endOf v) s (placeAt v i) (omega arith))
         ∙ entry-of-same (typeOf (getD b (placeAt v i) 0)) (placeAt v i + 1) (omega arith)
 
--- ---- what a view that matches both documents gives
+-- ---- what a view gives, where the documents are the same up to its end
 gate-open : (d : List ℕ) (v : View) (i : ℕ) → length d ≤ 16777216 → matches d v ≡ true → i < v .count → gateOf d v true i ≡ Open
 unfolding gateOf
 gate-open d v i sd md l = rw (le-ltb 16777216 (length d) sd, md, lt-leb (v .count) i l)
@@ -150,29 +157,71 @@ gate-open d v i sd md l = rw (le-ltb 16777216 (length d) sd, md, lt-leb (v .coun
 whole : (d : List ℕ) (v : View) (i : ℕ) → length d ≤ 16777216 → matches d v ≡ true → i < v .count → Whole d v i
 whole d v i sd md l = open-whole d v true i refl (gate-open d v i sd md l)
 
-module _ (a b : List ℕ) (v : View) (sa : length a ≤ 16777216) (sb : length b ≤ 16777216) (ma : matches a v ≡ true) (mb : matches b v ≡ true) where
-  gated-same : {A : Type 0} (asked : Bool) (i : ℕ) (x y : Said A) → (i < v .count → x ≡ y) → gated a v asked i x ≡ gated b v asked i y
+-- a document that is the same up to an end within the other reaches that end
+reaches : (a b : List ℕ) (e : ℕ) → take e a ≡ take e b → e ≤ length a → e ≤ length b
+reaches a b e s h = omega (arith, ap length s, length-take e a, length-take e b)
+
+matches-again : (a b : List ℕ) (v : View) → take (endOf v) a ≡ take (endOf v) b → length b ≤ 16777216 → matches a v ≡ true → matches b v ≡ true
+unfolding matches headerRead
+matches-again a b v s sb m =
+    let k = v .kind in
+    let i = v .start in
+    let h = read-by (eqb (placeFault a i (length a)) 0) (headerAt a k i (length a)) (placeFault a i (length a)) (matched a v m) in
+    let y = reaches a b (endOf v) s (header-ends a k i (length a) (v .count) (v .size) h) in
+    let r = placed-within b i (length b) header.Refused (record { order = omega arith; inside = le-refl (length b); short = sb }) in
+    ap (λ (x : Header). names x (v .count) (v .size)) (r ∙ header-again a k i (length a) (v .count) (v .size) h b (length b) s y)
+    ∙ rw (eq-eqb (v .count) (v .count) refl, eq-eqb (v .size) (v .size) refl)
+
+agree : (m n : Bool) → (m ≡ true → n ≡ true) → (n ≡ true → m ≡ true) → m ≡ n
+agree true n p q = sym (p refl)
+agree false true p q = q refl
+agree false false p q = refl
+
+module _ (a b : List ℕ) (v : View) (s : take (endOf v) a ≡ take (endOf v) b) (sa : length a ≤ 16777216) (sb : length b ≤ 16777216) where
+  pub matches-same : matches a v ≡ matches b v
+  matches-same = agree (matches a v) (matches b v) (matches-again a b v s sb) (matches-again b a v (sym s) sa)
+
+  -- what comes after the gate need be the same only where both views match
+  gated-same : {A : Type 0} (asked : Bool) (i : ℕ) (x y : Said A) → (matches a v ≡ true → matches b v ≡ true → i < v .count → x ≡ y) →
+      gated a v asked i x ≡ gated b v asked i y
   unfolding gated
-  gated-same {A} asked i x y f = rw (le-ltb 16777216 (length a) sa, le-ltb 16777216 (length b) sb, ma, mb) (go asked (leb (v .count) i) refl)
+  gated-same {A} asked i x y f =
+      rw (le-ltb 16777216 (length a) sa, le-ltb 16777216 (length b) sb) (go asked (matches a v) (matches b v) (leb (v .count) i) matches-same refl refl refl)
     where
-      go : (q t : Bool) → leb (v .count) i ≡ t → cond q (cond t nothing x) (refuses 13) ≡ cond q (cond t nothing y) (refuses 13)
-      go true true h = refl
-      go true false h = f (leb-false (v .count) i h)
-      go false t h = refl
+      go : (q m n t : Bool) → m ≡ n → matches a v ≡ m → matches b v ≡ n → leb (v .count) i ≡ t →
+          cond q (cond m (cond t nothing x) (refuses 13)) (refuses 13) ≡ cond q (cond n (cond t nothing y) (refuses 13)) (refuses 13)
+      go false m n t e ma mb h = refl
+      go true true true true e ma mb h = refl
+      go true true true false e ma mb h = f ma mb (leb-false (v .count) i h)
+      go true true false t e ma mb h = no-truth (sym e)
+      go true false true t e ma mb h = no-truth e
+      go true false false t e ma mb h = refl
 
   pub count-same : countAt a v ≡ countAt b v
   unfolding countAt
-  count-same = rw (le-ltb 16777216 (length a) sa, le-ltb 16777216 (length b) sb, ma, mb)
+  count-same = rw (le-ltb 16777216 (length a) sa, le-ltb 16777216 (length b) sb, matches-same)
 
-  module _ (s : take (endOf v) a ≡ take (endOf v) b) (i : ℕ) where
-    inside-same : i < v .count → entryAt a v i ≡ entryAt b v i
-    inside-same l =
+  -- whether there is an item, and so the place that follows
+  pub open-same : (asked : Bool) (i : ℕ) → isOpen a v asked i ≡ isOpen b v asked i
+  unfolding isOpen
+  open-same asked i = rw (le-ltb 16777216 (length a) sa, le-ltb 16777216 (length b) sb, matches-same)
+
+  pub steps-same : (asked : Bool) (n : ℕ) → stepsTo a v asked n ≡ stepsTo b v asked n
+  unfolding stepsTo
+  steps-same asked zero = refl
+  steps-same asked (suc n) =
+      ap (λ (p : ℕ). after (isOpen a v asked p) p) (steps-same asked n)
+      ∙ ap (λ (c : Bool). after c (stepsTo b v asked n)) (open-same asked (stepsTo b v asked n))
+
+  module _ (i : ℕ) where
+    said-same : matches a v ≡ true → matches b v ≡ true → i < v .count → readSaid (entryAt a v i) ≡ readSaid (entryAt b v i)
+    said-same ma mb l =
         let wa = whole a v i sa ma l in
         let wb = whole b v i sb mb l in
-        entry-same a b v s sa sb (wa .inside) (wb .inside) i (wa .header) l
+        ap readSaid (entry-same a b v s sa sb (wa .inside) (wb .inside) i (wa .header) l)
 
-    said-same : i < v .count → readSaid (entryAt a v i) ≡ readSaid (entryAt b v i)
-    said-same l = ap readSaid (inside-same l)
+    part-said-same : partSaid (keyEntryAt a v i) ≡ partSaid (keyEntryAt b v i)
+    part-said-same = ap partSaid (key-same a b v s i)
 
     pub elem-at-same : elemAt a v i ≡ elemAt b v i
     unfolding elemAt
@@ -180,7 +229,7 @@ module _ (a b : List ℕ) (v : View) (sa : length a ≤ 16777216) (sb : length b
 
     pub key-at-same : keyAt a v i ≡ keyAt b v i
     unfolding keyAt
-    key-at-same = gated-same (v .kind .object) i (partSaid (keyEntryAt a v i)) (partSaid (keyEntryAt b v i)) (λ l. ap partSaid (key-same a b v s i))
+    key-at-same = gated-same (v .kind .object) i (partSaid (keyEntryAt a v i)) (partSaid (keyEntryAt b v i)) (λ ma mb l. part-said-same)
 
     pub element-item-same : elementItem a v i ≡ elementItem b v i
     unfolding elementItem
@@ -188,15 +237,15 @@ module _ (a b : List ℕ) (v : View) (sa : length a ≤ 16777216) (sb : length b
 
     pub key-item-same : keyItem a v i ≡ keyItem b v i
     unfolding keyItem
-    key-item-same = gated-same (v .kind .object) i (partSaid (keyEntryAt a v i)) (partSaid (keyEntryAt b v i)) (λ l. ap partSaid (key-same a b v s i))
+    key-item-same = gated-same (v .kind .object) i (partSaid (keyEntryAt a v i)) (partSaid (keyEntryAt b v i)) (λ ma mb l. part-said-same)
 
     abbrev member : List ℕ → Said (Span × Value)
     member d = memberOf (partSaid (keyEntryAt d v i)) (readSaid (entryAt d v i))
 
-    member-same : i < v .count → member a ≡ member b
-    member-same l =
-        ap (λ (k : Said Span). memberOf k (readSaid (entryAt a v i))) (ap partSaid (key-same a b v s i))
-        ∙ ap (λ (x : Said Value). memberOf (partSaid (keyEntryAt b v i)) x) (said-same l)
+    member-same : matches a v ≡ true → matches b v ≡ true → i < v .count → member a ≡ member b
+    member-same ma mb l =
+        ap (λ (k : Said Span). memberOf k (readSaid (entryAt a v i))) part-said-same
+        ∙ ap (λ (x : Said Value). memberOf (partSaid (keyEntryAt b v i)) x) (said-same ma mb l)
 
     pub member-item-same : memberItem a v i ≡ memberItem b v i
     unfolding memberItem
