@@ -2,3 +2,4 @@ pub mod Iteration
 pub mod Inside
 pub mod OwnEnd
 pub mod SameFront
+pub mod RootSame

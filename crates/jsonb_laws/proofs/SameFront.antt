@@ -8,8 +8,7 @@ use Prim.Native.Nat.{ℕ, zero, suc, _+_, _≤_, _<_}
 use native.Mathlib.Nat.{le-refl}
 use native.Mathlib.Omega.{arith}
 use lib.Dec.{leb, eqb}
-use lib.ListN.{length, getD, take, drop, length-take}
-use lib.Seq.{getD-take, take-take}
+use lib.ListN.{length, getD, take, drop}
 use mir.Syntax.{w16, w32, w64}
 use mir.Val.{toZ}
 use borrow.Author.Tests.{leb-false, le-ltb, lt-leb, eq-eqb}
@@ -47,20 +46,17 @@ use Rattle.jsonb.specs.declared.gate.Gate.the-variants.{Open}
 use Rattle.layout.proofs.Inside.{value-inside}
 use Rattle.jsonb.proofs.Gates.{no-truth, read-by, matched, open-whole}
 use Rattle.jsonb_laws.specs.Walked.{stepsTo}
-use Rattle.jsonb_laws.proofs.OwnEnd.{header-ends, header-again}
+use Rattle.jsonb_laws.proofs.OwnEnd.{byte-same, take-less, reaches, header-ends, header-again}
 
 -- ---- up to an end e, at which the documents are not yet different
 module _ (a b : List ℕ) (e : ℕ) (s : take e a ≡ take e b) where
-  byte-same : (i : ℕ) → i < e → getD a i 0 ≡ getD b i 0
-  byte-same i h = sym (getD-take e a i 0 h) ∙ ap (λ (l : List ℕ). getD l i 0) s ∙ getD-take e b i 0 h
-
   -- a byte that is read after the test that it is there
   tested-same : {A : Type 0} (i : ℕ) (x : A) (f : ℕ → A) → cond (leb e i) x (f (getD a i 0)) ≡ cond (leb e i) x (f (getD b i 0))
   tested-same {A} i x f = go (leb e i) refl
     where
       go : (t : Bool) → leb e i ≡ t → cond t x (f (getD a i 0)) ≡ cond t x (f (getD b i 0))
       go true h = refl
-      go false h = ap f (byte-same i (leb-false e i h))
+      go false h = ap f (byte-same a b e s i (leb-false e i h))
 
   offset-same : (k : Kind) (i : ℕ) → offsetAt a k i e ≡ offsetAt b k i e
   unfolding offsetAt
@@ -113,10 +109,6 @@ module _ (a b : List ℕ) (e : ℕ) (s : take e a ≡ take e b) where
   read-same t i sa sb ea eb =
       rw (le-ltb 16777216 (length a) sa, le-ltb 16777216 (length b) sb, le-ltb (length a) e ea, le-ltb (length b) e eb, content-same t i)
 
--- a smaller end
-take-less : (a b : List ℕ) (m e : ℕ) → m ≤ e → take e a ≡ take e b → take m a ≡ take m b
-take-less a b m e h s = sym (take-take m e a h) ∙ ap (take m) s ∙ take-take m e b h
-
 -- ---- the entries of a view at whose end the documents are not yet different
 module _ (a b : List ℕ) (v : View) (s : take (endOf v) a ≡ take (endOf v) b) where
   pub key-same : (i : ℕ) → keyEntryAt a v i ≡ keyEntryAt b v i
@@ -156,10 +148,6 @@ gate-open d v i sd md l = rw (le-ltb 16777216 (length d) sd, md, lt-leb (v .coun
 
 whole : (d : List ℕ) (v : View) (i : ℕ) → length d ≤ 16777216 → matches d v ≡ true → i < v .count → Whole d v i
 whole d v i sd md l = open-whole d v true i refl (gate-open d v i sd md l)
-
--- a document that is the same up to an end within the other reaches that end
-reaches : (a b : List ℕ) (e : ℕ) → take e a ≡ take e b → e ≤ length a → e ≤ length b
-reaches a b e s h = omega (arith, ap length s, length-take e a, length-take e b)
 
 matches-again : (a b : List ℕ) (v : View) → take (endOf v) a ≡ take (endOf v) b → length b ≤ 16777216 → matches a v ≡ true → matches b v ≡ true
 unfolding matches headerRead

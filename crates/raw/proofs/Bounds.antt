@@ -27,7 +27,7 @@ le-below w doc at end p =
     let s = slice at end doc in
     value-below w (take w s) (bytes-take w s (slice-bytes doc at end p)) (rw length-take (min-le-left w (length s)))
 
-take-slice : (w at end : ℕ) (doc : List ℕ) → at + w ≤ end → take w (slice at end doc) ≡ take w (drop at doc)
+pub take-slice : (w at end : ℕ) (doc : List ℕ) → at + w ≤ end → take w (slice at end doc) ≡ take w (drop at doc)
 take-slice w zero end doc h = take-take w end doc (omega arith)
 take-slice w (suc at) zero doc h = absurd (omega arith)
 take-slice w (suc at) (suc end) [] h = refl
