@@ -3,3 +3,4 @@ pub mod Inside
 pub mod OwnEnd
 pub mod SameFront
 pub mod RootSame
+pub mod Answers

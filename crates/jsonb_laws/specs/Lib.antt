@@ -1,3 +1,4 @@
 pub mod Walked
 pub mod Within
 pub mod Ends
+pub mod Allowed
