@@ -5,11 +5,14 @@ use mathlib.Core.Bool.{Bool, true, false, cond}
 use mathlib.Core.List.{List}
 use Prim.Native.Nat.{ℕ, _≤_, _<_}
 use native.Mathlib.Omega.{arith}
-use lib.Dec.{ltb}
+use lib.Dec.{ltb, eqb}
 use lib.ListN.{length}
-use borrow.Author.Tests.{le-ltb, ltb-false, eq-eqb, ne-eqb}
+use borrow.Author.Tests.{le-ltb, ltb-false, eqb-true, eq-eqb, ne-eqb}
 use Rattle.layout.proofs.Cond.{yes, no}
-use Rattle.content.specs.Reading.{placeFault, placed}
+use Rattle.codes.specs.declared.types.JsonbType.{JsonbType}
+use Rattle.value.specs.declared.Value.{Value}
+use Rattle.content.specs.declared.Read.the-variants as read
+use Rattle.content.specs.Reading.{placeFault, placed, contentAt, readAt}
 use Rattle.content.specs.Course.{Within}
 
 -- f is the fault as the callee gives it
@@ -36,6 +39,14 @@ module _ (d : List ℕ) (i e : ℕ) where
   pub right-place : {f : ℕ} → f ≡ placeFault d i e → f ≡ 0 → Within (length d) i e
   right-place fe z = within (sym fe ∙ z)
 
+  -- what is no refusal was read at a place that the document has
+  pub placed-so : {A : Type 0} (refused : ℕ → A) (x y : A) → ((n : ℕ) → refused n ≡ y → ⊥) → placed d i e refused x ≡ y → (x ≡ y) × Within (length d) i e
+  placed-so refused x y f q = go (eqb (placeFault d i e) 0) refl q
+    where
+      go : (b : Bool) → eqb (placeFault d i e) 0 ≡ b → cond b x (refused (placeFault d i e)) ≡ y → (x ≡ y) × Within (length d) i e
+      go true h p = (p, within (eqb-true (placeFault d i e) 0 h))
+      go false h p = absurd (f (placeFault d i e) p)
+
   pub no-fault : Within (length d) i e → placeFault d i e ≡ 0
   unfolding placeFault
   no-fault w = simp (le-ltb 16777216 (length d) (w .short), le-ltb (length d) e (w .inside), le-ltb e i (w .order))
@@ -43,3 +54,12 @@ module _ (d : List ℕ) (i e : ℕ) where
   -- there the definition is what is read
   pub placed-within : {A : Type 0} (refused : ℕ → A) {x : A} → Within (length d) i e → placed d i e refused x ≡ x
   placed-within refused w = sym (placed-right d i e refl refused (no-fault w) refl)
+
+-- ---- values
+pub no-value : {A : Type 0} {n : ℕ} {x : Value} → read.Refused n ≡ read.Value x → A
+no-value e = let z : _≡_ {A = ℕ} 0 1 = cc in absurd (omega arith)
+
+-- one that is read at a place is the content there, and the document has the place
+pub read-so : (d : List ℕ) (t : JsonbType) (i e : ℕ) {x : Value} → readAt d t i e ≡ read.Value x → (contentAt d t i e ≡ read.Value x) × Within (length d) i e
+unfolding readAt
+read-so d t i e {x} q = placed-so d i e read.Refused (contentAt d t i e) (read.Value x) (λ n p. no-value p) q

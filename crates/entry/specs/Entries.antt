@@ -99,6 +99,10 @@ keyRead d v i = placed d (keyEnd v i) (endOf v) part.Refused (keyEntryAt d v i)
 unfoldable pub startOf : List ℕ → View → ℕ → JsonbType → ℕ
 startOf d v i t = cond (isInlined t (v .kind .large)) (placeAt v i + 1) (v .start + offsetAt d (v .kind) (placeAt v i + 1) (endOf v))
 
+-- and where it is read up to: the entry's end, or the container's
+unfoldable pub endFor : View → ℕ → JsonbType → ℕ
+endFor v i t = cond (isInlined t (v .kind .large)) (valueEnd v i) (endOf v)
+
 abbrev pub typedStart : List ℕ → View → ℕ → TypeOf → ℕ
 typedStart d v i (type-of.Known t) = startOf d v i t
 typedStart d v i (type-of.Refused n) = 0

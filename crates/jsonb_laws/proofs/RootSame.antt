@@ -18,34 +18,23 @@ use Rattle.codes.specs.declared.types.TypeOf.the-variants as type-of
 use Rattle.value.specs.declared.Scalar.the-variants as scalar
 use Rattle.value.specs.declared.Value.{Value}
 use Rattle.value.specs.declared.Value.the-variants as value
-use Rattle.content.specs.Reading.{contentAt, placeFault, readAt}
+use Rattle.content.specs.Reading.{readAt}
 use Rattle.content.specs.declared.Read.the-variants as read
-use Rattle.content.proofs.Placed.{placed-within}
+use Rattle.content.proofs.Placed.{no-value, read-so, placed-within}
 use Rattle.jsonb.specs.Views.{typedAt, rootRead}
 use Rattle.jsonb_laws.specs.Ends.{endAt}
 use Rattle.jsonb_laws.proofs.OwnEnd.{byte-same, reaches, content-ends, content-again}
 
-no-value : {A : Type 0} {n : ℕ} {x : Value} → read.Refused n ≡ read.Value x → A
-no-value e = let z : _≡_ {A = ℕ} 0 1 = cc in absurd (omega arith)
-
--- what is read at a place is the content there
-pub read-content : (d : List ℕ) (t : JsonbType) (i e : ℕ) (x : Value) → readAt d t i e ≡ read.Value x → contentAt d t i e ≡ read.Value x
-unfolding readAt
-read-content d t i e x q = go (eqb (placeFault d i e) 0) q
-  where
-    go : (b : Bool) → cond b (contentAt d t i e) (read.Refused (placeFault d i e)) ≡ read.Value x → contentAt d t i e ≡ read.Value x
-    go true p = p
-    go false p = no-value p
-
+-- ---- a value at a place
 module _ (a b : List ℕ) (t : JsonbType) (i e : ℕ) (x : Value) (q : readAt a t i e ≡ read.Value x) where
   pub read-ends : (i < endAt i x) × (endAt i x ≤ e)
-  read-ends = content-ends a b i e t x (read-content a t i e x q)
+  read-ends = content-ends a b i e t x (read-so a t i e q .0)
 
   pub read-again : take (endAt i x) a ≡ take (endAt i x) b → (f : ℕ) → endAt i x ≤ f → f ≤ length b → length b ≤ 16777216 → readAt b t i f ≡ read.Value x
   unfolding readAt
   read-again s f y l sb =
       placed-within b i f read.Refused (record { order = omega (arith, read-ends .0); inside = l; short = sb })
-      ∙ content-again a b i e t x (read-content a t i e x q) s f y
+      ∙ content-again a b i e t x (read-so a t i e q .0) s f y
 
 -- ---- the root
 module _ (d : List ℕ) (short : length d ≤ 16777216) where
