@@ -1,21 +1,20 @@
 -- The laws of words: a number of bytes in two parts, the top bits under a mask, and the zeros at its end. A word's top bits are clear up to
 -- its first byte that is not ASCII, so as many bytes are ASCII as lie wholly below its first top bit that is set.
 -- Assumes nothing.
-use Prim.Native.Nat.{ℕ, zero, suc, _+_, _-_, _*_, _/_, _%_, _^_, _≤_, _<_}
+use Prim.Native.Nat.{ℕ, zero, suc, _+_, _*_, _/_, _%_, _^_, _≤_, _<_}
 use mathlib.Core.Path.{_≡_, refl, sym, ap, _∙_, subst}
-use mathlib.Core.Bool.{Bool, true, false}
 use mathlib.Core.List.{List, [], _∷_, _++_}
 use native.Mathlib.Nat.{mul-assoc, mul-comm, pow-suc}
 use native.Mathlib.Omega.{arith}
-use lib.Bits.{bitAnd, and-block, and-high, and-le-r}
+use lib.Bits.{bitAnd, and-block, and-high}
 use lib.Count.{under, trailingZeros, trailing-of-zero}
-use lib.Dec.{ltb, eqb, leb}
+use lib.Dec.{ltb, eqb}
 use lib.ListN.{length, getD, take, drop, replicate, length-drop}
 use lib.Seq.{take-add, drop-cons, drop-drop, length-take-le}
 use borrow.Author.Tests.{ltb-true, ltb-false, leb-true, leb-false, eqb-true, eq-eqb}
 use Rattle.ascii.specs.Ascii.{low}
 use Rattle.ascii.specs.Words.{value, le, ascii}
-use Rattle.ascii.proofs.Low.{by, same, low-yes, low-no, low-le, low-all, low-some}
+use Rattle.ascii.proofs.Low.{by, same, low-yes, low-no, low-all, low-some}
 
 -- ---- two parts
 value-append : (xs ys : List ℕ) → value (xs ++ ys) ≡ value xs + 256 ^ length xs * value ys

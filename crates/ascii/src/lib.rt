@@ -55,33 +55,21 @@ fn ascii16(s: &[u8], at: usize) -> bool
     requires { ⌜ at + 16 ≤ length (now s) ⌝ }
     ensures { λ r. ⌜ r ≡ ascii 16 (now (s .entry)) at ⌝ }
 {
-    if ascii8(s, at) {
-        ascii8(s, at + 8)
-    } else {
-        false
-    }
+    ascii8(s, at) && ascii8(s, at + 8)
 }
 
 fn ascii32(s: &[u8], at: usize) -> bool
     requires { ⌜ at + 32 ≤ length (now s) ⌝ }
     ensures { λ r. ⌜ r ≡ ascii 32 (now (s .entry)) at ⌝ }
 {
-    if ascii16(s, at) {
-        ascii16(s, at + 16)
-    } else {
-        false
-    }
+    ascii16(s, at) && ascii16(s, at + 16)
 }
 
 fn ascii64(s: &[u8], at: usize) -> bool
     requires { ⌜ at + 64 ≤ length (now s) ⌝ }
     ensures { λ r. ⌜ r ≡ ascii 64 (now (s .entry)) at ⌝ }
 {
-    if ascii32(s, at) {
-        ascii32(s, at + 32)
-    } else {
-        false
-    }
+    ascii32(s, at) && ascii32(s, at + 32)
 }
 
 // Past the ASCII among the next eight bytes.
@@ -128,10 +116,8 @@ fn halves_end(s: &[u8], at: usize) -> usize
     requires { ⌜ Behind (now s) at ⌝ }
     ensures { λ r. ⌜ r ≡ asciiEnd (now (s .entry)) at ⌝ }
 {
-    if at + 32 <= s.len() {
-        if ascii32(s, at) {
-            return words_end(s, at + 32);
-        }
+    if at + 32 <= s.len() && ascii32(s, at) {
+        return words_end(s, at + 32);
     }
     words_end(s, at)
 }
@@ -177,27 +163,16 @@ pub fn short_ascii(s: &[u8]) -> bool
         return bytes_end(s, 0) == n;
     }
     if n < 8 {
-        if ascii4(s, 0) {
-            return ascii4(s, n - 4);
-        }
-        return false;
+        return ascii4(s, 0) && ascii4(s, n - 4);
     }
     if n < 16 {
-        if ascii8(s, 0) {
-            return ascii8(s, n - 8);
-        }
-        return false;
+        return ascii8(s, 0) && ascii8(s, n - 8);
     }
     if n < 32 {
-        if ascii16(s, 0) {
-            return ascii16(s, n - 16);
-        }
-        return false;
+        return ascii16(s, 0) && ascii16(s, n - 16);
     }
     if n < 64 {
-        if ascii32(s, 0) {
-            return ascii32(s, n - 32);
-        }
+        return ascii32(s, 0) && ascii32(s, n - 32);
     }
     false
 }

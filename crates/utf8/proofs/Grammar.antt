@@ -7,12 +7,37 @@ use mathlib.Core.List.{List, [], _∷_, _++_, append-assoc, append-nil}
 use native.Mathlib.Omega.{arith}
 use lib.Dec.{ltb, eqb}
 use lib.ListN.{length, length-append}
-use borrow.Author.Tests.{ltb-true, ltb-false, eqb-true, eqb-false}
+use borrow.Author.Tests.{ltb-true, ltb-false, eqb-true, eqb-false, ne-eqb}
 use Rattle.utf8.specs.declared.Utf8Check.the-variants.{Valid, Bad}
 use Rattle.utf8.specs.Course.{State, start, more, Move, to, stop, lead, follow, onward, run, checked}
 use Rattle.utf8.specs.Rfc3629.{Within, Char, utf8-1, utf8-2, utf8-3-E0, utf8-3-E1-EC, utf8-3-ED, utf8-3-EE-EF, utf8-4-F0, utf8-4-F1-F3, utf8-4-F4, Utf8}
 use Rattle.utf8.specs.Rfc3629.{none, and}
-use Rattle.utf8.proofs.Steps.{by, enter, inside, lead1, lead-low, lead2, lead3, lead4, lead-high, leadE0, leadED, leadF0, leadF4}
+use Rattle.ascii.proofs.Low.{by}
+use Rattle.utf8.proofs.Steps.{enter, inside, lead1, lead-low, lead2, lead3, lead4, lead-high}
+
+-- ---- the range of a second byte
+module _ (b : ℕ) where
+  leadE0 : b ≡ 224 → lead b ≡ to (more 1 160 191)
+  unfolding lead
+  leadE0 e = ap lead e
+
+  leadED : b ≡ 237 → lead b ≡ to (more 1 128 159)
+  unfolding lead
+  leadED e = ap lead e
+
+  leadE : 224 ≤ b → b < 240 → (b ≡ 224 → ⊥) → (b ≡ 237 → ⊥) → lead b ≡ to (more 1 128 191)
+  leadE g h n m = lead3 b g h ∙ simp (ne-eqb b 224 n, ne-eqb b 237 m)
+
+  leadF0 : b ≡ 240 → lead b ≡ to (more 2 144 191)
+  unfolding lead
+  leadF0 e = ap lead e
+
+  leadF4 : b ≡ 244 → lead b ≡ to (more 2 128 143)
+  unfolding lead
+  leadF4 e = ap lead e
+
+  leadF : 240 ≤ b → b ≤ 244 → (b ≡ 240 → ⊥) → (b ≡ 244 → ⊥) → lead b ≡ to (more 2 128 191)
+  leadF g h n m = lead4 b g h ∙ simp (ne-eqb b 240 n, ne-eqb b 244 m)
 
 -- ---- the row of a first byte
 pub data Row : ℕ → Move → Type 0 where
@@ -42,7 +67,7 @@ module _ (a : ℕ) where
       let u = ltb-false 244 a t in
       let v = eqb-false a 240 n in
       let w = eqb-false a 244 k in
-      is (lead4 a h u v w) (row-F1 (omega arith)))))
+      is (leadF a h u v w) (row-F1 (omega arith)))))
 
   row-three : 224 ≤ a → a < 240 → Row a (lead a)
   row-three h u =
@@ -52,8 +77,8 @@ module _ (a : ℕ) where
       (λ k.
       let v = eqb-false a 224 n in
       let w = eqb-false a 237 k in
-      by (ltb a 237) (λ t. let x = ltb-true a 237 t in is (lead3 a h u v w) (row-E1 (omega arith)))
-      (λ t. let x = ltb-false a 237 t in is (lead3 a h u v w) (row-EE (omega arith)))))
+      by (ltb a 237) (λ t. let x = ltb-true a 237 t in is (leadE a h u v w) (row-E1 (omega arith)))
+      (λ t. let x = ltb-false a 237 t in is (leadE a h u v w) (row-EE (omega arith)))))
 
   pub row : Row a (lead a)
   row =
@@ -100,12 +125,12 @@ unfolding lead
 made-so (utf8-1 {a} w) = made {m = to start} (lead1 a (omega arith)) refl
 made-so (utf8-2 {a} w t) = made {m = to (more 0 128 191)} (lead2 a (w .0) (omega arith)) (last t)
 made-so (utf8-3-E0 w t) = made {m = to (more 1 160 191)} refl (then w (last t))
-made-so (utf8-3-E1-EC {a} w t u) = made {m = to (more 1 128 191)} (lead3 a (omega arith) (omega arith) (λ e. omega arith) (λ e. omega arith)) (then t (last u))
+made-so (utf8-3-E1-EC {a} w t u) = made {m = to (more 1 128 191)} (leadE a (omega arith) (omega arith) (λ e. omega arith) (λ e. omega arith)) (then t (last u))
 made-so (utf8-3-ED w t) = made {m = to (more 1 128 159)} refl (then w (last t))
-made-so (utf8-3-EE-EF {a} w t u) = made {m = to (more 1 128 191)} (lead3 a (omega arith) (omega arith) (λ e. omega arith) (λ e. omega arith)) (then t (last u))
+made-so (utf8-3-EE-EF {a} w t u) = made {m = to (more 1 128 191)} (leadE a (omega arith) (omega arith) (λ e. omega arith) (λ e. omega arith)) (then t (last u))
 made-so (utf8-4-F0 w t u) = made {m = to (more 2 144 191)} refl (then w (then t (last u)))
 made-so (utf8-4-F1-F3 {a} w t u v) =
-    made {m = to (more 2 128 191)} (lead4 a (omega arith) (omega arith) (λ e. omega arith) (λ e. omega arith)) (then t (then u (last v)))
+    made {m = to (more 2 128 191)} (leadF a (omega arith) (omega arith) (λ e. omega arith) (λ e. omega arith)) (then t (then u (last v)))
 made-so (utf8-4-F4 w t u) = made {m = to (more 2 128 143)} refl (then w (then t (last u)))
 
 pub asked : {a : ℕ} {q : List ℕ} {m : Move} → lead a ≡ m → Made (a ∷ q) → Asks m q

@@ -1,4 +1,3 @@
-pub mod Words
 pub mod Steps
 pub mod Grammar
 pub mod Place

@@ -12,7 +12,8 @@ use borrow.Author.Tests.{ltb-true, ltb-false}
 use Rattle.utf8.specs.declared.Utf8Check.the-variants.{Bad}
 use Rattle.utf8.specs.Course.{State, start, more, Move, to, stop, lead, follow, onward, run, checked}
 use Rattle.utf8.specs.Rfc3629.{Within, Char, utf8-1, none, and, Begins, Unfinished, Stuck, Breaks}
-use Rattle.utf8.proofs.Steps.{by, enter, halt, below, above, inside}
+use Rattle.ascii.proofs.Low.{by}
+use Rattle.utf8.proofs.Steps.{enter, halt, below, above, inside}
 use Rattle.utf8.proofs.Grammar.{Row, row-1, row-2, row-E0, row-E1, row-ED, row-EE, row-F0, row-F1, row-F4, no-row, row, Tails, last, then, makes}
 use Rattle.utf8.proofs.Grammar.{made-so, asked, utf8-run}
 

@@ -1,29 +1,27 @@
--- The machine's run as the code takes it: a byte at a time, a block of ASCII at a time, a whole character at a time. Each law takes a place
--- to a later one and leaves the answer as it is.
+-- The machine's run as the code takes it: a byte at a time, ASCII as far as it goes, a whole character at a time. Each law takes a place to a
+-- later one and leaves the answer as it is, or says where the run stops.
 -- Assumes nothing.
-use Prim.Native.Nat.{ℕ, zero, suc, _+_, _-_, _*_, _≤_, _<_}
+use Prim.Native.Nat.{ℕ, suc, _+_, _≤_, _<_}
 use mathlib.Core.Path.{_≡_, refl, sym, ap, _∙_, subst}
 use mathlib.Core.Bool.{Bool, true, false}
-use mathlib.Core.List.{List, [], _∷_, _++_, append-nil}
+use mathlib.Core.List.{List, [], _∷_}
 use native.Mathlib.Nat.{add-zero}
 use native.Mathlib.Numerals.{add-one}
 use native.Mathlib.Omega.{arith}
-use lib.Dec.{eqb}
-use lib.ListN.{length, getD, take, drop, take-append-drop, drop-of-length-le, length-drop}
-use lib.Seq.{drop-cons, drop-drop, length-take-le, take-all, drop-length}
-use borrow.Author.Tests.{lt-ltb, le-ltb, ne-eqb, eqb-true, eqb-false}
-use Rattle.utf8.specs.declared.Utf8Check.the-variants.{Bad}
+use lib.Dec.{ltb, leb}
+use lib.ListN.{length, getD, drop, drop-of-length-le}
+use lib.Seq.{drop-cons, drop-drop, drop-length}
+use borrow.Author.Tests.{ltb-true, ltb-false, lt-ltb, le-ltb, leb-true, leb-false, eq-eqb, ne-eqb, eqb-true}
+use Rattle.ascii.specs.Ascii.{low, asciiEnd, shortAscii}
+use Rattle.ascii.proofs.Low.{by, low-yes, low-no, front-le}
+use Rattle.utf8.specs.declared.Utf8Check.the-variants.{Valid, Bad}
 use Rattle.utf8.specs.declared.Step.{Step}
 use Rattle.utf8.specs.declared.Step.the-variants.{Next, Stop}
-use Rattle.utf8.specs.Bytes.{Low, Ascii, Behind}
-use Rattle.utf8.specs.Course.{State, start, more, Move, to, stop, lead, follow, next, onward, ended, run, checked, Runs, Leads, on, off, Reaches, upto}
-use Rattle.utf8.specs.Course.{broke}
-use Rattle.utf8.specs.Rfc3629.{Within, Tail}
-use Rattle.utf8.proofs.Words.{behind}
+use Rattle.utf8.specs.Course.{State, start, more, Move, to, stop, least, most, lead, follow, next, onward, ended, run, checked, Runs, Takes, Fit, Leads, on, off}
+use Rattle.utf8.specs.Rfc3629.{Within}
 
-pub by : {A : Type 0} (t : Bool) → (t ≡ true → A) → (t ≡ false → A) → A
-by true f g = f refl
-by false f g = g refl
+no : {A : Type 0} → false ≡ true → A
+no e = absurd (let z : _≡_ {A = ℕ} 0 1 = cc in omega arith)
 
 -- ---- a byte
 pub enter : (st st' : State) (b : ℕ) (bs : List ℕ) (at : ℕ) → next st b ≡ to st' → run st at (b ∷ bs) ≡ run st' (at + 1) bs
@@ -41,25 +39,15 @@ module _ (st : State) (s : List ℕ) (at : ℕ) where
   out h = ap (run st at) (drop-of-length-le s h)
 
   -- to the next place
-  pub step : (st' : State) (j : ℕ) → j ≡ at + 1 → at < length s → next st (getD s at 0) ≡ to st' → run st at (drop at s) ≡ run st' j (drop j s)
+  step : (st' : State) (j : ℕ) → j ≡ at + 1 → at < length s → next st (getD s at 0) ≡ to st' → run st at (drop at s) ≡ run st' j (drop j s)
   step st' j e h n =
       ap (run st at) (drop-cons s at 0 h)
       ∙ enter st st' (getD s at 0) (drop (suc at) s) at n
       ∙ ap (λ (k : ℕ). run st' (at + 1) (drop k s)) (sym (add-one at))
       ∙ ap (λ (k : ℕ). run st' k (drop k s)) (sym e)
 
-  pub stops : at < length s → next st (getD s at 0) ≡ stop → Leads st s at (Stop at)
-  stops h n = off (ap (run st at) (drop-cons s at 0 h) ∙ halt st (getD s at 0) (drop (suc at) s) at n)
-
-  pub goes : at < length s → next st (getD s at 0) ≡ to start → Leads st s at (Next (at + 1))
-  goes h n = on {j = at + 1} (omega arith) (omega arith) (step start (at + 1) refl h n)
-
-  pub passes : (st' : State) {r : Step} → at < length s → next st (getD s at 0) ≡ to st' → Leads st' s (at + 1) r → Leads st s at r
-  passes st' h n (on {j} a b e) = on {j = j} (omega arith) b (step st' (at + 1) refl h n ∙ e)
-  passes st' h n (off e) = off (step st' (at + 1) refl h n ∙ e)
-
-pub cut : (k lo hi : ℕ) (s : List ℕ) (at : ℕ) → length s ≤ at → Leads (more k lo hi) s at (Stop at)
-cut k lo hi s at h = off (out (more k lo hi) s at h)
+  rest : at < length s → next st (getD s at 0) ≡ stop → run st at (drop at s) ≡ Bad at
+  rest h n = ap (run st at) (drop-cons s at 0 h) ∙ halt st (getD s at 0) (drop (suc at) s) at n
 
 module _ (k lo hi b : ℕ) where
   pub below : b < lo → next (more k lo hi) b ≡ stop
@@ -85,192 +73,134 @@ module _ (b : ℕ) where
   unfolding lead
   lead2 g h = simp (le-ltb b 128 (omega arith), le-ltb b 194 g, lt-ltb b 224 h)
 
-  pub lead3 : 224 ≤ b → b < 240 → (b ≡ 224 → ⊥) → (b ≡ 237 → ⊥) → lead b ≡ to (more 1 128 191)
+  pub lead3 : 224 ≤ b → b < 240 → lead b ≡ to (more 1 (least b 224 160) (most b 237 159))
   unfolding lead
-  lead3 g h n m = simp (le-ltb b 128 (omega arith), le-ltb b 194 (omega arith), le-ltb b 224 g, lt-ltb b 240 h, ne-eqb b 224 n, ne-eqb b 237 m)
+  lead3 g h = simp (le-ltb b 128 (omega arith), le-ltb b 194 (omega arith), le-ltb b 224 g, lt-ltb b 240 h)
 
-  pub lead4 : 240 ≤ b → b ≤ 244 → (b ≡ 240 → ⊥) → (b ≡ 244 → ⊥) → lead b ≡ to (more 2 128 191)
+  pub lead4 : 240 ≤ b → b ≤ 244 → lead b ≡ to (more 2 (least b 240 144) (most b 244 143))
   unfolding lead
-  lead4 g h n m =
-      simp (
-        le-ltb b 128 (omega arith),
-        le-ltb b 194 (omega arith),
-        le-ltb b 224 (omega arith),
-        le-ltb b 240 g,
-        lt-ltb b 245 (omega arith),
-        ne-eqb b 240 n,
-        ne-eqb b 244 m,
-      )
+  lead4 g h =
+      simp (le-ltb b 128 (omega arith), le-ltb b 194 (omega arith), le-ltb b 224 (omega arith), le-ltb b 240 g, lt-ltb b 245 (omega arith))
 
   pub lead-high : 244 < b → lead b ≡ stop
   unfolding lead
   lead-high g = simp (le-ltb b 128 (omega arith), le-ltb b 194 (omega arith), le-ltb b 224 (omega arith), le-ltb b 240 (omega arith), le-ltb b 245 (omega arith))
 
-  pub leadE0 : b ≡ 224 → lead b ≡ to (more 1 160 191)
-  unfolding lead
-  leadE0 e = ap lead e
-
-  pub leadED : b ≡ 237 → lead b ≡ to (more 1 128 159)
-  unfolding lead
-  leadED e = ap lead e
-
-  pub leadF0 : b ≡ 240 → lead b ≡ to (more 2 144 191)
-  unfolding lead
-  leadF0 e = ap lead e
-
-  pub leadF4 : b ≡ 244 → lead b ≡ to (more 2 128 143)
-  unfolding lead
-  leadF4 e = ap lead e
-
--- what the first two bytes from F0 90 to F4 8F ask for
-pub record Four (b t : ℕ) : Type 0 where
-  pub lo : ℕ
-  pub hi : ℕ
-  pub asks : lead b ≡ to (more 2 lo hi)
-  pub fits : Within lo hi t
-
-pub four-lead : (b t : ℕ) → 61584 ≤ 256 * b + t → 256 * b + t ≤ 62607 → Tail t → Four b t
-four-lead b t g h w =
-    by (eqb b 240) (λ e. let f = eqb-true b 240 e in record { lo = 144; hi = 191; asks = leadF0 b f; fits = omega arith })
-    (λ n.
-    by (eqb b 244) (λ e. let f = eqb-true b 244 e in record { lo = 128; hi = 143; asks = leadF4 b f; fits = omega arith })
-    (λ m. record { lo = 128; hi = 191; asks = lead4 b (omega arith) (omega arith) (eqb-false b 240 n) (eqb-false b 244 m); fits = w }))
-
 -- ---- places where a character begins
 pub stay : (s : List ℕ) (at : ℕ) → at ≤ length s → Runs s at at
 stay s at h = record { on = omega arith; within = h; same = refl }
 
-module _ {s : List ℕ} {at i r : ℕ} where
-  pub then : Runs s at i → Runs s i r → Runs s at r
-  then p q = record { on = omega (arith, p .on, q .on); within = q .within; same = p .same ∙ q .same }
+pub then : {s : List ℕ} {at i r : ℕ} → Runs s at i → Runs s i r → Runs s at r
+then p q = record { on = omega (arith, p .on, q .on); within = q .within; same = p .same ∙ q .same }
 
-  pub between : Runs s at i → Runs s at r → i ≤ r → Runs s i r
-  between p q h = record { on = h; within = q .within; same = sym (p .same) ∙ q .same }
+pub one : (s : List ℕ) (at : ℕ) → at < length s → getD s at 0 < 128 → Runs s at (at + 1)
+one s at h b = record { on = omega arith; within = omega arith; same = step start s at start (at + 1) refl h (lead1 _ b) }
 
-module _ (s : List ℕ) (at : ℕ) where
-  pub one : at < length s → getD s at 0 < 128 → Runs s at (at + 1)
-  one h b = record { on = omega arith; within = omega arith; same = step start s at start (at + 1) refl h (lead1 _ b) }
+-- ---- ASCII
+low-run : (xs : List ℕ) (at : ℕ) → run start at xs ≡ run start (at + low xs) (drop (low xs) xs)
+unfolding low
+low-run [] at = ap (λ (n : ℕ). run start n []) (sym (add-zero at))
+low-run (b ∷ bs) at =
+    by (ltb b 128)
+    (λ t.
+    let h = ltb-true b 128 t in
+    let e : at + 1 + low bs ≡ at + suc (low bs) = omega arith in
+    enter start start b bs at (lead1 b h)
+    ∙ low-run bs (at + 1)
+    ∙ ap (λ (n : ℕ). run start n (drop (low bs) bs)) e
+    ∙ ap (λ (n : ℕ). run start (at + n) (drop n (b ∷ bs))) (sym (low-yes b bs h)))
+    (λ t.
+    ap (λ (n : ℕ). run start n (b ∷ bs)) (sym (add-zero at))
+    ∙ ap (λ (n : ℕ). run start (at + n) (drop n (b ∷ bs))) (sym (low-no b bs (ltb-false b 128 t))))
 
-  -- whole characters of two, three and four bytes
-  pub two : at + 2 ≤ length s → lead (getD s at 0) ≡ to (more 0 128 191) → Tail (getD s (at + 1) 0) → Runs s at (at + 2)
-  two n l t =
+module _ (s : List ℕ) (at : ℕ) {r : ℕ} where
+  pub ascii-runs : at ≤ length s → r ≡ asciiEnd s at → Runs s at r
+  ascii-runs h e =
       record {
         on = omega arith;
-        within = n;
+        within = omega (arith, front-le s at h);
         same =
-            step start s at (more 0 128 191) (at + 1) refl (omega arith) l
-            ∙ step (more 0 128 191) s (at + 1) start (at + 2) (omega arith) (omega arith) (inside 0 128 191 _ t);
+            low-run (drop at s) at
+            ∙ ap (run start (asciiEnd s at)) (drop-drop (low (drop at s)) at s)
+            ∙ ap (λ (n : ℕ). run start n (drop n s)) (sym e);
       }
 
-  pub three : (lo hi : ℕ) → at + 3 ≤ length s → lead (getD s at 0) ≡ to (more 1 lo hi) → Within lo hi (getD s (at + 1) 0) → Tail (getD s (at + 2) 0)
-      → Runs s at (at + 3)
-  three lo hi n l t u =
+  pub ascii-more : at < length s → getD s at 0 < 128 → r ≡ asciiEnd s at → at < r
+  ascii-more h b e =
+      let f : low (drop at s) ≡ suc (low (drop (suc at) s)) = ap low (drop-cons s at 0 h) ∙ low-yes (getD s at 0) (drop (suc at) s) b in
+      omega arith
+
+pub short-valid : (s : List ℕ) {r : Bool} → r ≡ shortAscii s → r ≡ true → checked s ≡ Valid
+unfolding shortAscii run
+short-valid s e t =
+    by (ltb (length s) 64)
+    (λ h.
+    let f : low s ≡ length s = eqb-true (low s) (length s) (simp h at (sym e ∙ t)) in
+    low-run s 0 ∙ ap (λ (n : ℕ). run start (0 + n) (drop n s)) f ∙ ap (run start (0 + length s)) (drop-length s))
+    (λ h. no (simp h at (sym e ∙ t)))
+
+-- ---- a byte in its range
+module _ (lo hi : ℕ) (s : List ℕ) (at : ℕ) where
+  pub takes-end : length s ≤ at → Takes lo hi s at false
+  takes-end h = record { there = λ e. no e; stops = λ e k. out (more k lo hi) s at h }
+
+  pub takes-below : at < length s → getD s at 0 < lo → Takes lo hi s at false
+  takes-below h b = record { there = λ e. no e; stops = λ e k. rest (more k lo hi) s at h (below k lo hi (getD s at 0) b) }
+
+  pub takes-to : at < length s → lo ≤ getD s at 0 → Takes lo hi s at (leb (getD s at 0) hi)
+  takes-to h b =
       record {
-        on = omega arith;
-        within = n;
-        same =
-            step start s at (more 1 lo hi) (at + 1) refl (omega arith) l
-            ∙ step (more 1 lo hi) s (at + 1) (more 0 128 191) (at + 2) (omega arith) (omega arith) (inside 1 lo hi _ t)
-            ∙ step (more 0 128 191) s (at + 2) start (at + 3) (omega arith) (omega arith) (inside 0 128 191 _ u);
+        there = λ e. (h, b, leb-true (getD s at 0) hi e);
+        stops = λ e k. rest (more k lo hi) s at h (above k lo hi (getD s at 0) b (leb-false (getD s at 0) hi e));
       }
 
-  pub four : at + 4 ≤ length s → Four (getD s at 0) (getD s (at + 1) 0) → Tail (getD s (at + 2) 0) → Tail (getD s (at + 3) 0) → Runs s at (at + 4)
-  four n f u v =
-      record {
-        on = omega arith;
-        within = n;
-        same =
-            step start s at (more 2 (f .lo) (f .hi)) (at + 1) refl (omega arith) (f .asks)
-            ∙ step (more 2 (f .lo) (f .hi)) s (at + 1) (more 1 128 191) (at + 2) (omega arith) (omega arith) (inside 2 (f .lo) (f .hi) _ (f .fits))
-            ∙ step (more 1 128 191) s (at + 2) (more 0 128 191) (at + 3) (omega arith) (omega arith) (inside 1 128 191 _ u)
-            ∙ step (more 0 128 191) s (at + 3) start (at + 4) (omega arith) (omega arith) (inside 0 128 191 _ v);
-      }
+module _ (b first last lo hi : ℕ) {s : List ℕ} {at : ℕ} {r : Bool} where
+  pub second-first : first < last → b ≡ first → Takes lo 191 s at r → Takes (least b first lo) (most b last hi) s at r
+  second-first h e t = simp (eq-eqb b first e, ne-eqb b last (λ f. omega arith)) t
 
--- ---- blocks of ASCII
-low-run : (xs ys : List ℕ) (at : ℕ) → Low xs → run start at (xs ++ ys) ≡ run start (at + length xs) ys
-low-run [] ys at p = ap (λ (n : ℕ). run start n ys) (sym (add-zero at))
-low-run (x ∷ xs) ys at p =
-    enter start start x (xs ++ ys) at (lead1 x (p .0)) ∙ low-run xs ys (at + 1) (p .1) ∙ ap (λ (n : ℕ). run start n ys) (omega arith)
+  pub second-last : (b ≡ first → ⊥) → b ≡ last → Takes 128 hi s at r → Takes (least b first lo) (most b last hi) s at r
+  second-last n e t = simp (ne-eqb b first n, eq-eqb b last e) t
 
-pub skip : {n : ℕ} {s : List ℕ} {at : ℕ} → Ascii n s at → Runs s at (at + n)
-skip {n} {s} {at} p =
-    let l : length (take n (drop at s)) ≡ n = length-take-le n (drop at s) (simp length-drop (omega (arith, p .within))) in
-    record {
-      on = omega arith;
-      within = p .within;
-      same =
-          ap (run start at) (sym (take-append-drop n (drop at s)))
-          ∙ low-run (take n (drop at s)) (drop n (drop at s)) at (p .low)
-          ∙ ap (λ (k : ℕ). run start (at + k) (drop n (drop at s))) l
-          ∙ ap (run start (at + n)) (drop-drop n at s);
-    }
+  pub second-other : (b ≡ first → ⊥) → (b ≡ last → ⊥) → Takes 128 191 s at r → Takes (least b first lo) (most b last hi) s at r
+  second-other n m t = simp (ne-eqb b first n, ne-eqb b last m) t
 
-low-drop : (n : ℕ) (xs : List ℕ) → Low xs → Low (drop n xs)
-low-drop zero xs p = p
-low-drop (suc n) [] p = p
-low-drop (suc n) (x ∷ xs) p = low-drop n xs (p .1)
+-- ---- a character
+-- after j bytes of the character that begins at a place, the run is in a state
+pub record After (s : List ℕ) (at j : ℕ) (st : State) : Type 0 where
+  pub same : run start at (drop at s) ≡ run st (at + j) (drop (at + j) s)
 
--- a block at the end of the text, which may begin before the place
-pub last : {w : ℕ} {s : List ℕ} {j at i : ℕ} → Ascii w s j → j + w ≡ length s → j ≤ i → Runs s at i → Runs s at (length s)
-last {w} {s} {j} {at} {i} p e h q =
-    let l : take w (drop j s) ≡ drop j s = take-all w (drop j s) (simp length-drop (omega arith)) in
-    let f : j + (i - j) ≡ i = omega arith in
-    let d : drop (i - j) (drop j s) ≡ drop i s = drop-drop (i - j) j s ∙ ap (λ (n : ℕ). drop n s) f in
-    let n : i + length (drop i s) ≡ length s = simp length-drop (omega (arith, q .within)) in
-    record {
-      on = omega (arith, q .on, q .within);
-      within = omega arith;
-      same =
-          q .same
-          ∙ ap (run start i) (sym (append-nil (drop i s)))
-          ∙ low-run (drop i s) [] i (subst Low d (low-drop (i - j) (drop j s) (subst Low l (p .low))))
-          ∙ ap (λ (k : ℕ). run start k []) n
-          ∙ ap (run start (length s)) (sym (drop-length s));
-    }
+pub begun : (s : List ℕ) (at : ℕ) {st : State} → at < length s → lead (getD s at 0) ≡ to st → After s at 1 st
+begun s at {st} h l = record { same = step start s at st (at + 1) refl h l }
 
--- behind an ASCII byte a run may begin with that byte
-pub among : {s : List ℕ} {at r : ℕ} → Behind s at → at ≤ length s → Runs s (at - 1) r → (getD s (at - 1) 0 < 128 → at - 1 < r) → Runs s at r
-among {s} {at} {r} b h p g =
-    let l = g (b .ascii) in
-    let o = b .some in
-    let e : at - 1 + 1 ≡ at = omega arith in
-    between (subst (Runs s (at - 1)) e (one s (at - 1) (omega arith) (b .ascii))) p (omega arith)
+module _ {j : ℕ} {lo hi : ℕ} {s : List ℕ} {at : ℕ} {r : Bool} where
+  pub onto : {k : ℕ} → After s at j (more k lo hi) → Takes lo hi s (at + j) r → r ≡ true → After s at (j + 1) (follow k)
+  onto {k} a t e =
+      let w = t .there e in
+      let f : at + (j + 1) ≡ at + j + 1 = omega arith in
+      record { same = a .same ∙ step (more k lo hi) s (at + j) (follow k) (at + (j + 1)) f (w .0) (inside k lo hi _ (w .1, w .2)) }
 
--- all before a place is passed, and the last byte of it was ASCII
-pub record Passed (s : List ℕ) (at i : ℕ) : Type 0 where
-  pub runs : Runs s at i
-  pub behind : Behind s i
+  pub fit-whole : After s at j (more 0 lo hi) → Takes lo hi s (at + j) r → r ≡ true → Fit (j + 1) s at (j + 1)
+  fit-whole a t e =
+      let w = t .there e .0 in
+      record { whole = λ h. record { on = omega arith; within = omega arith; same = onto a t e .same }; part = λ h. absurd (omega arith) }
 
-pub pass : (n : ℕ) {s : List ℕ} {at i : ℕ} → 1 ≤ n → Passed s at i → Ascii n s i → Passed s at (i + n)
-pass n h p a = record { runs = then (p .runs) (skip a); behind = behind n h a }
+  pub fit-part : {k n : ℕ} → j < k → After s at j (more n lo hi) → Takes lo hi s (at + j) r → r ≡ false → Fit k s at j
+  fit-part {n = n} h a t e = record { whole = λ g. absurd (omega arith); part = λ g. a .same ∙ t .stops e n }
+
+pub fit-none : (k : ℕ) (s : List ℕ) (at : ℕ) → 0 < k → at < length s → lead (getD s at 0) ≡ stop → Fit k s at 0
+fit-none k s at g h l =
+    record { whole = λ n. absurd (omega arith); part = λ n. rest start s at h l ∙ ap Bad (sym (add-zero at)) }
 
 -- ---- the answers of steps
-module _ {s : List ℕ} {at : ℕ} where
-  next-place : {j : ℕ} → Leads start s at (Next j) → (at < j) × Runs s at j
-  next-place (on a b e) = (a, record { on = omega arith; within = b; same = e })
+module _ {from : ℕ} {s : List ℕ} {at : ℕ} where
+  next-place : {j : ℕ} → Leads from s at (Next j) → (from ≤ j) × Runs s at j
+  next-place (on p a) = (a, p)
 
-  pub led : {r : Step} {j : ℕ} → r ≡ Next j → Leads start s at r → (at < j) × Runs s at j
-  led e l = next-place (subst (Leads start s at) e l)
+  pub led : {r : Step} {j : ℕ} → r ≡ Next j → Leads from s at r → (from ≤ j) × Runs s at j
+  led e l = next-place (subst (Leads from s at) e l)
 
-  stop-place : {p : ℕ} → Leads start s at (Stop p) → run start at (drop at s) ≡ Bad p
+  stop-place : {p : ℕ} → Leads from s at (Stop p) → run start at (drop at s) ≡ Bad p
   stop-place (off e) = e
 
-  pub stopped : {r : Step} {p : ℕ} → r ≡ Stop p → Leads start s at r → run start at (drop at s) ≡ Bad p
-  stopped e l = stop-place (subst (Leads start s at) e l)
-
-module _ {s : List ℕ} where
-  pub reach-step : {i : ℕ} {r : Step} → Runs s 0 i → Leads start s i r → Reaches s r
-  reach-step p (on a b e) = upto (then p (record { on = omega arith; within = b; same = e }))
-  reach-step p (off e) = broke (p .same ∙ e)
-
-  front-place : {j : ℕ} → Reaches s (Next j) → Runs s 0 j
-  front-place (upto p) = p
-
-  pub reached : {r : Step} {j : ℕ} → r ≡ Next j → Reaches s r → Runs s 0 j
-  reached e p = front-place (subst (Reaches s) e p)
-
-  front-stop : {p : ℕ} → Reaches s (Stop p) → checked s ≡ Bad p
-  front-stop (broke e) = e
-
-  pub broken-off : {r : Step} {p : ℕ} → r ≡ Stop p → Reaches s r → checked s ≡ Bad p
-  broken-off e p = front-stop (subst (Reaches s) e p)
+  pub stopped : {r : Step} {p : ℕ} → r ≡ Stop p → Leads from s at r → run start at (drop at s) ≡ Bad p
+  stopped e l = stop-place (subst (Leads from s at) e l)

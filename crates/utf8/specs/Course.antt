@@ -3,10 +3,10 @@
 -- Assumes nothing.
 use Prim.Native.Nat.{ℕ, zero, suc, _+_, _≤_, _<_}
 use mathlib.Core.Path.{_≡_}
-use mathlib.Core.Bool.{cond}
+use mathlib.Core.Bool.{Bool, true, false, cond}
 use mathlib.Core.List.{List, [], _∷_}
 use lib.Dec.{ltb, eqb}
-use lib.ListN.{length, drop}
+use lib.ListN.{length, getD, drop}
 use Rattle.utf8.specs.declared.Utf8Check.{Utf8Check}
 use Rattle.utf8.specs.declared.Utf8Check.the-variants.{Valid, Bad}
 use Rattle.utf8.specs.declared.Step.{Step}
@@ -22,14 +22,21 @@ pub data Move : Type 0 where
   to : State → Move
   stop : Move
 
+-- the range of a second byte behind b: from 128 to 191, but from lo on behind one byte, and up to hi behind another
+abbrev pub least : ℕ → ℕ → ℕ → ℕ
+least b first lo = cond (eqb b first) lo 128
+
+abbrev pub most : ℕ → ℕ → ℕ → ℕ
+most b last hi = cond (eqb b last) hi 191
+
 -- what a first byte asks of those that follow
 unfoldable pub lead : ℕ → Move
 lead b =
     cond (ltb b 128) (to start)
     (cond (ltb b 194) stop
     (cond (ltb b 224) (to (more 0 128 191))
-    (cond (ltb b 240) (to (more 1 (cond (eqb b 224) 160 128) (cond (eqb b 237) 159 191)))
-    (cond (ltb b 245) (to (more 2 (cond (eqb b 240) 144 128) (cond (eqb b 244) 143 191))) stop))))
+    (cond (ltb b 240) (to (more 1 (least b 224 160) (most b 237 159)))
+    (cond (ltb b 245) (to (more 2 (least b 240 144) (most b 244 143))) stop))))
 
 -- after a byte of a character of which k more are to come
 abbrev pub follow : ℕ → State
@@ -71,12 +78,17 @@ pub record Runs (s : List ℕ) (at r : ℕ) : Type 0 where
   pub within : r ≤ length s
   pub same : run start at (drop at s) ≡ run start r (drop r s)
 
--- what a step from a state says
-pub data Leads (st : State) (s : List ℕ) (at : ℕ) : Step → Type 0 where
-  on : {j : ℕ} → at < j → j ≤ length s → run st at (drop at s) ≡ run start j (drop j s) → Leads st s at (Next j)
-  off : {p : ℕ} → run st at (drop at s) ≡ Bad p → Leads st s at (Stop p)
+-- r says whether a byte from lo to hi stands at a place; where none does, a run that asks for one stops there
+pub record Takes (lo hi : ℕ) (s : List ℕ) (at : ℕ) (r : Bool) : Type 0 where
+  pub there : r ≡ true → (at < length s) × (lo ≤ getD s at 0) × (getD s at 0 ≤ hi)
+  pub stops : r ≡ false → (k : ℕ) → run (more k lo hi) at (drop at s) ≡ Bad at
 
--- what a step from the front says, which may stand still
-pub data Reaches (s : List ℕ) : Step → Type 0 where
-  upto : {j : ℕ} → Runs s 0 j → Reaches s (Next j)
-  broke : {p : ℕ} → checked s ≡ Bad p → Reaches s (Stop p)
+-- n bytes fit a character of k: it is whole, or the run stops behind them
+pub record Fit (k : ℕ) (s : List ℕ) (at n : ℕ) : Type 0 where
+  pub whole : k ≤ n → Runs s at (at + k)
+  pub part : n < k → run start at (drop at s) ≡ Bad (at + n)
+
+-- what a step says from a place where a character begins: the place, from `from` on, where the next begins, or where the run stops
+pub data Leads (from : ℕ) (s : List ℕ) (at : ℕ) : Step → Type 0 where
+  on : {j : ℕ} → Runs s at j → from ≤ j → Leads from s at (Next j)
+  off : {p : ℕ} → run start at (drop at s) ≡ Bad p → Leads from s at (Stop p)

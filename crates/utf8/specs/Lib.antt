@@ -1,3 +1,2 @@
 pub mod Rfc3629
 pub mod Course
-pub mod Bytes

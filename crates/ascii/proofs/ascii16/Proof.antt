@@ -19,7 +19,7 @@ returns : tie.Need-returns
 returns c = c .ascii82 .ensures ∙ second 8 8 _ _ (all 8 _ _ (c .before .before .ascii8 .ensures) (c .before .if1 .taken))
 
 returns-2 : tie.Need-returns-2
-returns-2 c = neither 8 8 _ _ (not-all 8 _ _ (c .before .ascii8 .ensures) (c .if1 .left))
+returns-2 c = c .if1 .left ∙ neither 8 8 _ _ (not-all 8 _ _ (c .before .ascii8 .ensures) (c .if1 .left))
 
 pub ascii16-spec : {M : Type 1} → statement M
 ascii16-spec = tie.close (tie.spec ascii8-requires add-ascii8 ascii8-requires-2 returns returns-2)

@@ -19,7 +19,7 @@ returns : tie.Need-returns
 returns c = c .ascii162 .ensures ∙ second 16 16 _ _ (all 16 _ _ (c .before .before .ascii16 .ensures) (c .before .if1 .taken))
 
 returns-2 : tie.Need-returns-2
-returns-2 c = neither 16 16 _ _ (not-all 16 _ _ (c .before .ascii16 .ensures) (c .if1 .left))
+returns-2 c = c .if1 .left ∙ neither 16 16 _ _ (not-all 16 _ _ (c .before .ascii16 .ensures) (c .if1 .left))
 
 pub ascii32-spec : {M : Type 1} → statement M
 ascii32-spec =

@@ -19,7 +19,7 @@ returns : tie.Need-returns
 returns c = c .ascii322 .ensures ∙ second 32 32 _ _ (all 32 _ _ (c .before .before .ascii32 .ensures) (c .before .if1 .taken))
 
 returns-2 : tie.Need-returns-2
-returns-2 c = neither 32 32 _ _ (not-all 32 _ _ (c .before .ascii32 .ensures) (c .if1 .left))
+returns-2 c = c .if1 .left ∙ neither 32 32 _ _ (not-all 32 _ _ (c .before .ascii32 .ensures) (c .if1 .left))
 
 pub ascii64-spec : {M : Type 1} → statement M
 ascii64-spec =

@@ -1,8 +1,9 @@
--- ASCII is a character by itself, and of the others each range of first bytes has its step.
+-- ASCII is a character by itself, and each other range of first bytes has its size.
 -- Assumes nothing.
 use native.Mathlib.Omega.{arith}
+use Rattle.utf8.specs.Course.{on}
+use Rattle.utf8.proofs.Steps.{one}
 use borrow.Author.Needs.{needs}
-use Rattle.utf8.proofs.Steps.{goes, lead1}
 use Rattle.utf8.proofs.char_at.Statement.{statement}
 use Rattle.utf8.proofs.char_at.Tie as tie
 
@@ -13,22 +14,31 @@ add-t7 : tie.Need-add-t7
 add-t7 c = search needs
 
 returns : tie.Need-returns
-returns c = goes _ _ _ (omega arith) (lead1 _ (c .if1 .taken))
+returns c = on (one _ _ (omega arith) (c .if1 .taken)) (omega arith)
 
-two-step-requires : tie.Need-two-step-requires
-two-step-requires c κs = search needs
+fit-two-requires : tie.Need-fit-two-requires
+fit-two-requires c κs = search needs
+
+past-requires : tie.Need-past-requires
+past-requires c κs = search needs
 
 returns-2 : tie.Need-returns-2
 returns-2 c = search needs
 
-three-step-requires : tie.Need-three-step-requires
-three-step-requires c κs = search needs
+fit-three-requires : tie.Need-fit-three-requires
+fit-three-requires c κs = search needs
+
+past-requires-2 : tie.Need-past-requires-2
+past-requires-2 c κs = search needs
 
 returns-3 : tie.Need-returns-3
 returns-3 c = search needs
 
-four-step-requires : tie.Need-four-step-requires
-four-step-requires c κs = search needs
+fit-four-requires : tie.Need-fit-four-requires
+fit-four-requires c κs = search needs
+
+past-requires-3 : tie.Need-past-requires-3
+past-requires-3 c κs = search needs
 
 returns-4 : tie.Need-returns-4
 returns-4 c = search needs
@@ -40,9 +50,12 @@ char-at-spec =
     shared-slice-read-b
     add-t7
     returns
-    two-step-requires
+    fit-two-requires
+    past-requires
     returns-2
-    three-step-requires
+    fit-three-requires
+    past-requires-2
     returns-3
-    four-step-requires
+    fit-four-requires
+    past-requires-3
     returns-4)

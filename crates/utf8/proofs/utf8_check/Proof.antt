@@ -1,13 +1,13 @@
--- Each character that is passed leaves the machine's answer as it is, and what the answer tells is proved of the machine.
+-- A short text that is ASCII is valid; else what `quick` and then `char_at` pass leaves the machine's answer as it is, and its answer is the one that tells.
 -- Assumes nothing.
 use Prim.Native.Nat.{_-_}
 use mathlib.Core.Path.{sym, _∙_}
 use native.Mathlib.Omega.{arith}
 use lib.ListN.{length}
-use borrow.Author.Needs.{needs}
 use Rattle.utf8.specs.Course.{Runs}
+use Rattle.utf8.proofs.Steps.{out, then, short-valid, led, stopped}
 use Rattle.utf8.proofs.Answers.{told}
-use Rattle.utf8.proofs.Steps.{out, then, led, stopped, reached, broken-off}
+use borrow.Author.Needs.{needs}
 use Rattle.utf8.proofs.utf8_check.Statement.{statement}
 use Rattle.utf8.proofs.utf8_check.Tie as tie
 
@@ -16,6 +16,12 @@ Inv-loop s i₀ i = Runs s 0 i
 
 abbrev μ-loop : tie.MeasureT-loop
 μ-loop s i₀ i = length s - i
+
+short-ascii-requires : tie.Need-short-ascii-requires Inv-loop μ-loop
+short-ascii-requires c κs = search needs
+
+returns : tie.Need-returns Inv-loop μ-loop
+returns c = told (sym (short-valid _ (c .before .short-ascii .ensures) (c .if1 .taken)))
 
 quick-requires : tie.Need-quick-requires Inv-loop μ-loop
 quick-requires c κs = search needs
@@ -26,11 +32,11 @@ enum-known-j c = search needs
 enum-known-p : tie.Need-enum-known-p Inv-loop μ-loop
 enum-known-p c = search needs
 
-returns : tie.Need-returns Inv-loop μ-loop
-returns c = told (sym (broken-off (c .before .p .given .1) (c .before .before .before .quick .ensures)))
+returns-2 : tie.Need-returns-2 Inv-loop μ-loop
+returns-2 c = told (sym (stopped (c .before .p .given .1) (c .before .before .before .quick .ensures)))
 
 loop-holds : tie.Need-loop-holds Inv-loop μ-loop
-loop-holds c = reached (c .before .j .given .1) (c .before .before .before .quick .ensures)
+loop-holds c = led (c .before .j .given .1) (c .before .before .before .quick .ensures) .1
 
 char-at-requires : tie.Need-char-at-requires Inv-loop μ-loop
 char-at-requires c κs = search needs
@@ -47,11 +53,11 @@ loop-again c = then (c .before .before .before .before .before .loop .inv) (led 
 enum-known-p-2 : tie.Need-enum-known-p-2 Inv-loop μ-loop
 enum-known-p-2 c = search needs
 
-returns-2 : tie.Need-returns-2 Inv-loop μ-loop
-returns-2 c = told (sym (c .before .before .before .before .before .loop .inv .same ∙ stopped (c .before .p2 .given .1) (c .before .before .before .char-at .ensures)))
-
 returns-3 : tie.Need-returns-3 Inv-loop μ-loop
-returns-3 c = told (sym (c .before .loop .inv .same ∙ out _ _ _ (c .loop-test .left)))
+returns-3 c = told (sym (c .before .before .before .before .before .loop .inv .same ∙ stopped (c .before .p2 .given .1) (c .before .before .before .char-at .ensures)))
+
+returns-4 : tie.Need-returns-4 Inv-loop μ-loop
+returns-4 c = told (sym (c .before .loop .inv .same ∙ out _ _ _ (c .loop-test .left)))
 
 pub utf8-check-spec : {M : Type 1} → statement M
 utf8-check-spec =
@@ -59,15 +65,17 @@ utf8-check-spec =
     (tie.spec
     Inv-loop
     μ-loop
+    short-ascii-requires
+    returns
     quick-requires
     enum-known-j
     enum-known-p
-    returns
+    returns-2
     loop-holds
     char-at-requires
     enum-known-j-2
     loop-less
     loop-again
     enum-known-p-2
-    returns-2
-    returns-3)
+    returns-3
+    returns-4)
