@@ -143,7 +143,12 @@ fn quick(s: &[u8]) -> Step
     while i < hot {
         let b = s[i];
         if b < 128 {
-            i = ascii_end(s, i);
+            // one ASCII byte alone, as a space between words, is not worth a word's test
+            if 128 <= s[i + 1] {
+                i += 1;
+            } else {
+                i = ascii_end(s, i);
+            }
         } else if b < 224 {
             let n = fit_two(s, i);
             if n < 2 {
