@@ -3,7 +3,7 @@
 -- Assumes nothing.
 use Prim.Native.Nat.{ℕ, suc, _+_, _≤_, _<_}
 use mathlib.Core.Path.{_≡_, refl, sym, ap, _∙_, subst}
-use mathlib.Core.Bool.{Bool, true, false}
+use mathlib.Core.Bool.{Bool, true, false, not}
 use mathlib.Core.List.{List, [], _∷_}
 use native.Mathlib.Nat.{add-zero}
 use native.Mathlib.Numerals.{add-one}
@@ -11,7 +11,7 @@ use native.Mathlib.Omega.{arith}
 use lib.Dec.{ltb, leb}
 use lib.ListN.{length, getD, drop, drop-of-length-le}
 use lib.Seq.{drop-cons, drop-drop, drop-length}
-use borrow.Author.Tests.{ltb-true, ltb-false, lt-ltb, le-ltb, leb-true, leb-false, eq-eqb, ne-eqb, eqb-true}
+use borrow.Author.Tests.{ltb-true, ltb-false, lt-ltb, le-ltb, leb-true, leb-false, eq-eqb, ne-eqb, eqb-true, not-true, not-false}
 use Rattle.ascii.specs.Ascii.{low, asciiEnd, shortAscii}
 use Rattle.ascii.proofs.Low.{by, low-yes, low-no, front-le}
 use Rattle.utf8.specs.declared.Utf8Check.the-variants.{Valid, Bad}
@@ -172,20 +172,21 @@ pub record After (s : List ℕ) (at j : ℕ) (st : State) : Type 0 where
 pub begun : (s : List ℕ) (at : ℕ) {st : State} → at < length s → lead (getD s at 0) ≡ to st → After s at 1 st
 begun s at {st} h l = record { same = step start s at st (at + 1) refl h l }
 
+-- the code asks whether the next byte does not fit
 module _ {j : ℕ} {lo hi : ℕ} {s : List ℕ} {at : ℕ} {r : Bool} where
-  pub onto : {k : ℕ} → After s at j (more k lo hi) → Takes lo hi s (at + j) r → r ≡ true → After s at (j + 1) (follow k)
+  pub onto : {k : ℕ} → After s at j (more k lo hi) → Takes lo hi s (at + j) r → not r ≡ false → After s at (j + 1) (follow k)
   onto {k} a t e =
-      let w = t .there e in
+      let w = t .there (not-false r e) in
       let f : at + (j + 1) ≡ at + j + 1 = omega arith in
       record { same = a .same ∙ step (more k lo hi) s (at + j) (follow k) (at + (j + 1)) f (w .0) (inside k lo hi _ (w .1, w .2)) }
 
-  pub fit-whole : After s at j (more 0 lo hi) → Takes lo hi s (at + j) r → r ≡ true → Fit (j + 1) s at (j + 1)
+  pub fit-whole : After s at j (more 0 lo hi) → Takes lo hi s (at + j) r → not r ≡ false → Fit (j + 1) s at (j + 1)
   fit-whole a t e =
-      let w = t .there e .0 in
+      let w = t .there (not-false r e) .0 in
       record { whole = λ h. record { on = omega arith; within = omega arith; same = onto a t e .same }; part = λ h. absurd (omega arith) }
 
-  pub fit-part : {k n : ℕ} → j < k → After s at j (more n lo hi) → Takes lo hi s (at + j) r → r ≡ false → Fit k s at j
-  fit-part {n = n} h a t e = record { whole = λ g. absurd (omega arith); part = λ g. a .same ∙ t .stops e n }
+  pub fit-part : {k n : ℕ} → j < k → After s at j (more n lo hi) → Takes lo hi s (at + j) r → not r ≡ true → Fit k s at j
+  fit-part {n = n} h a t e = record { whole = λ g. absurd (omega arith); part = λ g. a .same ∙ t .stops (not-true r e) n }
 
 pub fit-none : (k : ℕ) (s : List ℕ) (at : ℕ) → 0 < k → at < length s → lead (getD s at 0) ≡ stop → Fit k s at 0
 fit-none k s at g h l =

@@ -2,7 +2,6 @@
 -- Assumes nothing.
 use native.Mathlib.Omega.{arith}
 use lib.Dec.{lit<}
-use borrow.Author.Tests.{not-true, not-false}
 use Rattle.utf8.proofs.Steps.{lead4, lead-high, begun, onto, fit-none, fit-part, fit-whole}
 use borrow.Author.Needs.{needs}
 use Rattle.utf8.proofs.fit_four.Statement.{statement}
@@ -24,7 +23,7 @@ second-fits-requires : tie.Need-second-fits-requires
 second-fits-requires c κs = search needs
 
 returns-2 : tie.Need-returns-2
-returns-2 c = fit-part (lit< tt) (begun _ _ (omega arith) (lead4 _ (omega arith) (omega arith))) (c .before .second-fits .ensures) (not-true (c .before .second-fits .result) (c .if2 .taken))
+returns-2 c = fit-part (lit< tt) (begun _ _ (omega arith) (lead4 _ (omega arith) (omega arith))) (c .before .second-fits .ensures) (c .if2 .taken)
 
 add-fits : tie.Need-add-fits
 add-fits c = search needs
@@ -35,8 +34,8 @@ fits-requires c κs = search needs
 returns-3 : tie.Need-returns-3
 returns-3 c =
     fit-part (lit< tt)
-    (onto (begun _ _ (omega arith) (lead4 _ (omega arith) (omega arith))) (c .before .before .before .second-fits .ensures) (not-false (c .before .before .before .second-fits .result) (c .before .before .if2 .left)))
-    (c .before .fits2 .ensures) (not-true (c .before .fits2 .result) (c .if3 .taken))
+    (onto (begun _ _ (omega arith) (lead4 _ (omega arith) (omega arith))) (c .before .before .before .second-fits .ensures) (c .before .before .if2 .left))
+    (c .before .fits2 .ensures) (c .if3 .taken)
 
 add-fits-2 : tie.Need-add-fits-2
 add-fits-2 c = search needs
@@ -47,16 +46,16 @@ fits-requires-2 c κs = search needs
 returns-4 : tie.Need-returns-4
 returns-4 c =
     fit-part (lit< tt)
-    (onto (onto (begun _ _ (omega arith) (lead4 _ (omega arith) (omega arith))) (c .before .before .before .before .before .second-fits .ensures) (not-false (c .before .before .before .before .before .second-fits .result) (c .before .before .before .before .if2 .left)))
-    (c .before .before .before .fits2 .ensures) (not-false (c .before .before .before .fits2 .result) (c .before .before .if3 .left)))
-    (c .before .fits3 .ensures) (not-true (c .before .fits3 .result) (c .if4 .taken))
+    (onto (onto (begun _ _ (omega arith) (lead4 _ (omega arith) (omega arith))) (c .before .before .before .before .before .second-fits .ensures) (c .before .before .before .before .if2 .left))
+    (c .before .before .before .fits2 .ensures) (c .before .before .if3 .left))
+    (c .before .fits3 .ensures) (c .if4 .taken)
 
 returns-5 : tie.Need-returns-5
 returns-5 c =
     fit-whole
-    (onto (onto (begun _ _ (omega arith) (lead4 _ (omega arith) (omega arith))) (c .before .before .before .before .before .second-fits .ensures) (not-false (c .before .before .before .before .before .second-fits .result) (c .before .before .before .before .if2 .left)))
-    (c .before .before .before .fits2 .ensures) (not-false (c .before .before .before .fits2 .result) (c .before .before .if3 .left)))
-    (c .before .fits3 .ensures) (not-false (c .before .fits3 .result) (c .if4 .left))
+    (onto (onto (begun _ _ (omega arith) (lead4 _ (omega arith) (omega arith))) (c .before .before .before .before .before .second-fits .ensures) (c .before .before .before .before .if2 .left))
+    (c .before .before .before .fits2 .ensures) (c .before .before .if3 .left))
+    (c .before .fits3 .ensures) (c .if4 .left)
 
 pub fit-four-spec : {M : Type 1} → statement M
 fit-four-spec =

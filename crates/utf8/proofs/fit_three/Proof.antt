@@ -2,7 +2,6 @@
 -- Assumes nothing.
 use native.Mathlib.Omega.{arith}
 use lib.Dec.{lit<}
-use borrow.Author.Tests.{not-true, not-false}
 use Rattle.utf8.proofs.Steps.{lead3, begun, onto, fit-part, fit-whole}
 use borrow.Author.Needs.{needs}
 use Rattle.utf8.proofs.fit_three.Statement.{statement}
@@ -18,7 +17,7 @@ second-fits-requires : tie.Need-second-fits-requires
 second-fits-requires c κs = search needs
 
 returns : tie.Need-returns
-returns c = fit-part (lit< tt) (begun _ _ (omega arith) (lead3 _ (omega arith) (omega arith))) (c .before .second-fits .ensures) (not-true (c .before .second-fits .result) (c .if1 .taken))
+returns c = fit-part (lit< tt) (begun _ _ (omega arith) (lead3 _ (omega arith) (omega arith))) (c .before .second-fits .ensures) (c .if1 .taken)
 
 add-fits : tie.Need-add-fits
 add-fits c = search needs
@@ -29,14 +28,14 @@ fits-requires c κs = search needs
 returns-2 : tie.Need-returns-2
 returns-2 c =
     fit-part (lit< tt)
-    (onto (begun _ _ (omega arith) (lead3 _ (omega arith) (omega arith))) (c .before .before .before .second-fits .ensures) (not-false (c .before .before .before .second-fits .result) (c .before .before .if1 .left)))
-    (c .before .fits2 .ensures) (not-true (c .before .fits2 .result) (c .if2 .taken))
+    (onto (begun _ _ (omega arith) (lead3 _ (omega arith) (omega arith))) (c .before .before .before .second-fits .ensures) (c .before .before .if1 .left))
+    (c .before .fits2 .ensures) (c .if2 .taken)
 
 returns-3 : tie.Need-returns-3
 returns-3 c =
     fit-whole
-    (onto (begun _ _ (omega arith) (lead3 _ (omega arith) (omega arith))) (c .before .before .before .second-fits .ensures) (not-false (c .before .before .before .second-fits .result) (c .before .before .if1 .left)))
-    (c .before .fits2 .ensures) (not-false (c .before .fits2 .result) (c .if2 .left))
+    (onto (begun _ _ (omega arith) (lead3 _ (omega arith) (omega arith))) (c .before .before .before .second-fits .ensures) (c .before .before .if1 .left))
+    (c .before .fits2 .ensures) (c .if2 .left)
 
 pub fit-three-spec : {M : Type 1} → statement M
 fit-three-spec =

@@ -2,7 +2,6 @@
 -- Assumes nothing.
 use native.Mathlib.Omega.{arith}
 use lib.Dec.{lit<}
-use borrow.Author.Tests.{not-true, not-false}
 use Rattle.utf8.proofs.Steps.{lead-low, lead2, begun, fit-none, fit-part, fit-whole}
 use borrow.Author.Needs.{needs}
 use Rattle.utf8.proofs.fit_two.Statement.{statement}
@@ -21,10 +20,10 @@ fits-requires : tie.Need-fits-requires
 fits-requires c κs = search needs
 
 returns-2 : tie.Need-returns-2
-returns-2 c = fit-part (lit< tt) (begun _ _ (omega arith) (lead2 _ (c .before .before .if1 .left) (omega arith))) (c .before .fits2 .ensures) (not-true (c .before .fits2 .result) (c .if2 .taken))
+returns-2 c = fit-part (lit< tt) (begun _ _ (omega arith) (lead2 _ (c .before .before .if1 .left) (omega arith))) (c .before .fits2 .ensures) (c .if2 .taken)
 
 returns-3 : tie.Need-returns-3
-returns-3 c = fit-whole (begun _ _ (omega arith) (lead2 _ (c .before .before .if1 .left) (omega arith))) (c .before .fits2 .ensures) (not-false (c .before .fits2 .result) (c .if2 .left))
+returns-3 c = fit-whole (begun _ _ (omega arith) (lead2 _ (c .before .before .if1 .left) (omega arith))) (c .before .fits2 .ensures) (c .if2 .left)
 
 pub fit-two-spec : {M : Type 1} → statement M
 fit-two-spec =
