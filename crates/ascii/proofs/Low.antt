@@ -6,12 +6,12 @@ use mathlib.Core.Path.{_≡_, refl, sym, ap, _∙_}
 use mathlib.Core.Bool.{Bool, true, false}
 use mathlib.Core.List.{List, [], _∷_}
 use native.Mathlib.Omega.{arith}
-use lib.Dec.{ltb, eqb}
+use lib.Dec.{ltb, leb}
 use lib.ListN.{length, getD, take, drop, drop-of-length-le, length-drop}
 use lib.Seq.{drop-cons, drop-drop}
-use borrow.Author.Tests.{ltb-true, ltb-false, lt-ltb, le-ltb, leb-true, leb-false, le-leb, lt-leb, eqb-true, eq-eqb, ne-eqb}
-use Rattle.ascii.specs.Ascii.{low, asciiEnd, shortAscii}
-use Rattle.ascii.specs.Words.{ascii, Behind}
+use borrow.Author.Tests.{ltb-true, ltb-false, lt-ltb, le-ltb, leb-true, leb-false, le-leb, lt-leb}
+use Rattle.ascii.specs.Ascii.{low, asciiEnd, shortEnd}
+use Rattle.ascii.specs.Words.{ascii, past, Behind}
 
 pub by : {A : Type 0} (t : Bool) → (t ≡ true → A) → (t ≡ false → A) → A
 by true f g = f refl
@@ -99,9 +99,10 @@ module _ (s : List ℕ) (at : ℕ) where
       let e : low (drop at s) ≡ suc (low (drop (suc at) s)) = ap low (drop-cons s at 0 h) ∙ low-yes (getD s at 0) (drop (suc at) s) b in
       pass (at + 1) (omega arith) (omega arith)
 
-  -- of the next eight bytes those up to the first that is not ASCII, where there is one
-  pub part : low (drop at s) < 8 → at + low (take 8 (drop at s)) ≡ asciiEnd s at
-  part h = ap (λ (n : ℕ). at + n) (low-some 8 (drop at s) (omega arith))
+  -- where not all of the next n bytes are ASCII, they tell
+  pub part : (n : ℕ) → low (drop at s) < n → past n s at ≡ asciiEnd s at
+  unfolding past
+  part n h = ap (λ (k : ℕ). at + k) (low-some n (drop at s) (omega arith))
 
 -- ---- blocks
 module _ {r : Bool} (n : ℕ) (s : List ℕ) (at : ℕ) where
@@ -132,6 +133,25 @@ module _ (m n : ℕ) (s : List ℕ) (at : ℕ) where
   unfolding ascii
   neither h = sym (lt-leb (m + n) (low (drop at s)) (omega arith))
 
+  -- and so the places past them
+  pub past-second : m ≤ low (drop at s) → past n s (at + m) ≡ past (m + n) s at
+  unfolding past
+  past-second h =
+      let xs = drop at s in
+      let e = low-drop m xs h in
+      let f : drop m xs ≡ drop (at + m) s = drop-drop m at s in
+      let g : low (drop m xs) ≡ low (drop (at + m) s) = ap low f in
+      by (leb n (low (drop (at + m) s)))
+      (λ t.
+      let x = leb-true n (low (drop (at + m) s)) t in
+      omega (arith, low-all n (drop (at + m) s) x, low-all (m + n) xs (omega arith)))
+      (λ t.
+      let x = leb-false n (low (drop (at + m) s)) t in
+      omega (arith, low-some n (drop (at + m) s) (omega arith), low-some (m + n) xs (omega arith)))
+
+  pub past-first : low (drop at s) < m → past m s at ≡ past (m + n) s at
+  past-first h = part s at m h ∙ sym (part s at (m + n) (omega arith))
+
 -- ---- behind a word
 pub behind : (n : ℕ) (s : List ℕ) (at : ℕ) → 8 ≤ n → at ≤ length s → n ≤ low (drop at s) → Behind s (at + n)
 behind n s at h w g =
@@ -139,41 +159,46 @@ behind n s at h w g =
     let e = pass s at (at + (n - 8)) (omega arith) (omega arith) in
     record { within = omega arith; from = at + (n - 8); eight = omega arith; there = omega arith }
 
--- the last word of the text ends where the ASCII ends
-pub last-word : (s : List ℕ) (at j : ℕ) → Behind s at → j + 8 ≡ length s → j ≤ at → j + low (take 8 (drop j s)) ≡ asciiEnd s at
+-- the last n bytes of the text tell where the ASCII ends that reaches into them
+last : (n : ℕ) (s : List ℕ) (at j : ℕ) → at ≤ j → j ≤ asciiEnd s at → j + n ≡ length s → past n s j ≡ asciiEnd s at
+unfolding past
+last n s at j h g e =
+    let x = pass s at j h g in
+    let f = front-le s j (omega arith) in
+    let z = low-some n (drop j s) (omega arith) in
+    omega arith
+
+-- so does the last word, behind eight bytes of ASCII
+pub last-word : (s : List ℕ) (at j : ℕ) → Behind s at → j + 8 ≡ length s → j ≤ at → past 8 s j ≡ asciiEnd s at
 last-word s at j b e g =
     let w = b .within in
     let i = b .eight in
     let t = b .there in
     let x = pass s (b .from) at (omega arith) (omega arith) in
-    let y = pass s (b .from) j (omega arith) (omega arith) in
-    let f = front-le s j (omega arith) in
-    let z = low-some 8 (drop j s) (omega arith) in
-    omega arith
+    last 8 s (b .from) j (omega arith) (omega arith) e ∙ x
 
 -- ---- a short text
+module _ (s : List ℕ) where
+  pub short : length s < 64 → asciiEnd s 0 ≡ shortEnd s
+  unfolding shortEnd
+  short h = let e : 0 + low s ≡ low s = omega arith in e ∙ simp (lt-ltb (length s) 64 h)
+
+  pub long : 64 ≤ length s → 0 ≡ shortEnd s
+  unfolding shortEnd
+  long h = simp (le-ltb (length s) 64 h)
+
+-- its first k bytes and its last k bytes are all of it
 module _ (k : ℕ) (s : List ℕ) (h : k ≤ length s) (g : length s < 64) where
-  -- its first k bytes and its last k bytes are all of it
-  pub ends : length s ≤ k + k → k ≤ low (drop 0 s) → ascii k s (length s - k) ≡ shortAscii s
-  unfolding ascii shortAscii
-  ends d f =
+  pub short-last : length s ≤ k + k → k ≤ low (drop 0 s) → past k s (length s - k) ≡ shortEnd s
+  short-last d f = last k s 0 (length s - k) (omega arith) (omega arith) (omega arith) ∙ short s g
+
+  pub short-first : low (drop 0 s) < k → past k s 0 ≡ shortEnd s
+  short-first f = part s 0 k f ∙ short s g
+
+  pub short-all : length s ≤ k + k → k ≤ low (drop 0 s) → k ≤ low (drop (length s - k) s) → length s ≡ shortEnd s
+  short-all d f l =
       let j = length s - k in
       let e = pass s 0 j (omega arith) (omega arith) in
       let m = front-le s j (omega arith) in
-      let l = low-le s in
-      same (ascii k s j) (shortAscii s)
-      (λ t. let x = leb-true k (low (drop j s)) t in simp (lt-ltb (length s) 64 g, eq-eqb (low s) (length s) (omega arith)))
-      (λ t. let x = eqb-true (low s) (length s) (simp (lt-ltb (length s) 64 g) at t) in le-leb k (low (drop j s)) (omega arith))
-
-  pub ends-not : low (drop 0 s) < k → false ≡ shortAscii s
-  unfolding shortAscii
-  ends-not f = simp (lt-ltb (length s) 64 g, ne-eqb (low s) (length s) (λ e. omega arith))
-
-module _ (s : List ℕ) where
-  pub few : {r : ℕ} → length s < 64 → r ≡ asciiEnd s 0 → eqb r (length s) ≡ shortAscii s
-  unfolding shortAscii
-  few {r} h e = let f : r ≡ low s = omega arith in ap (λ (n : ℕ). eqb n (length s)) f ∙ simp (lt-ltb (length s) 64 h)
-
-  pub long : 64 ≤ length s → false ≡ shortAscii s
-  unfolding shortAscii
-  long h = simp (le-ltb (length s) 64 h)
+      let a : length s ≡ asciiEnd s 0 = omega arith in
+      a ∙ short s g

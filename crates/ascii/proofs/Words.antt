@@ -13,7 +13,7 @@ use lib.ListN.{length, getD, take, drop, replicate, length-drop}
 use lib.Seq.{take-add, drop-cons, drop-drop, length-take-le}
 use borrow.Author.Tests.{ltb-true, ltb-false, leb-true, leb-false, eqb-true, eq-eqb}
 use Rattle.ascii.specs.Ascii.{low}
-use Rattle.ascii.specs.Words.{value, le, ascii}
+use Rattle.ascii.specs.Words.{value, le, ascii, past}
 use Rattle.ascii.proofs.Low.{by, same, low-yes, low-no, low-all, low-some}
 
 -- ---- two parts
@@ -192,6 +192,6 @@ module _ (s : List ℕ) (at : ℕ) (p : Octets s) where
   unfolding value
   full-test = word-test 8 s at p
 
-  pub full-zeros : at + 8 ≤ length s → trailingZeros 64 (bitAnd (le 8 s at) 9259542123273814144) / 8 ≡ low (take 8 (drop at s))
-  unfolding value
-  full-zeros = word-zeros 8 s at p
+  pub full-zeros : at + 8 ≤ length s → at + trailingZeros 64 (bitAnd (le 8 s at) 9259542123273814144) / 8 ≡ past 8 s at
+  unfolding value past
+  full-zeros h = ap (λ (n : ℕ). at + n) (word-zeros 8 s at p h)

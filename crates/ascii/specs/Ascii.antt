@@ -1,9 +1,9 @@
--- ASCII: the bytes 00 to 7F (RFC 3629, section 3), how far a text is made of them, and whether a short text is.
+-- ASCII: the bytes 00 to 7F (RFC 3629, section 3), and how far a text is made of them.
 -- Assumes nothing.
 use Prim.Native.Nat.{ℕ, suc, _+_}
-use mathlib.Core.Bool.{Bool, false, cond}
+use mathlib.Core.Bool.{cond}
 use mathlib.Core.List.{List, [], _∷_}
-use lib.Dec.{ltb, eqb}
+use lib.Dec.{ltb}
 use lib.ListN.{length, drop}
 
 -- how many bytes at the front are ASCII
@@ -15,6 +15,6 @@ low (b ∷ bs) = cond (ltb b 128) (suc (low bs)) 0
 abbrev pub asciiEnd : List ℕ → ℕ → ℕ
 asciiEnd s at = at + low (drop at s)
 
--- whether a text is shorter than 64 bytes and all ASCII
-unfoldable pub shortAscii : List ℕ → Bool
-shortAscii s = cond (ltb (length s) 64) (eqb (low s) (length s)) false
+-- the same from the front, of a text of fewer than 64 bytes; 0 of a longer one
+unfoldable pub shortEnd : List ℕ → ℕ
+shortEnd s = cond (ltb (length s) 64) (low s) 0

@@ -22,6 +22,10 @@ le w s at = value (take w (drop at s))
 unfoldable pub ascii : ℕ → List ℕ → ℕ → Bool
 ascii n s at = leb n (low (drop at s))
 
+-- past the ASCII among the next n bytes
+unfoldable pub past : ℕ → List ℕ → ℕ → ℕ
+past n s at = at + low (take n (drop at s))
+
 -- the eight bytes before a place of the text are ASCII
 pub record Behind (s : List ℕ) (at : ℕ) : Type 0 where
   pub within : at ≤ length s

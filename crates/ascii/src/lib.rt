@@ -1,9 +1,9 @@
 // How far a text is ASCII: bytes below 128, found in words of eight and blocks of words.
 ghost use mathlib.Core.Path.{_≡_};
 ghost use Prim.Native.Nat.{_+_, _≤_, _<_};
-ghost use lib.ListN.{length, drop, take};
-ghost use Rattle.ascii.specs.Ascii.{low, asciiEnd, shortAscii};
-ghost use Rattle.ascii.specs.Words.{le, ascii, Behind};
+ghost use lib.ListN.{length};
+ghost use Rattle.ascii.specs.Ascii.{asciiEnd, shortEnd};
+ghost use Rattle.ascii.specs.Words.{le, ascii, past, Behind};
 
 // The top bits of eight bytes.
 const TOPS: u64 = 0x8080_8080_8080_8080;
@@ -72,12 +72,32 @@ fn ascii64(s: &[u8], at: usize) -> bool
     ascii32(s, at) && ascii32(s, at + 32)
 }
 
-// Past the ASCII among the next eight bytes.
+// Past the ASCII among the next bytes.
 fn past8(s: &[u8], at: usize) -> usize
     requires { ⌜ at + 8 ≤ length (now s) ⌝ }
-    ensures { λ r. ⌜ r ≡ at + low (take 8 (drop at (now (s .entry)))) ⌝ }
+    ensures { λ r. ⌜ r ≡ past 8 (now (s .entry)) at ⌝ }
 {
     at + (u64::trailing_zeros(word_at(s, at) & TOPS) / 8) as usize
+}
+
+fn past16(s: &[u8], at: usize) -> usize
+    requires { ⌜ at + 16 ≤ length (now s) ⌝ }
+    ensures { λ r. ⌜ r ≡ past 16 (now (s .entry)) at ⌝ }
+{
+    if ascii8(s, at) {
+        return past8(s, at + 8);
+    }
+    past8(s, at)
+}
+
+fn past32(s: &[u8], at: usize) -> usize
+    requires { ⌜ at + 32 ≤ length (now s) ⌝ }
+    ensures { λ r. ⌜ r ≡ past 32 (now (s .entry)) at ⌝ }
+{
+    if ascii16(s, at) {
+        return past16(s, at + 16);
+    }
+    past16(s, at)
 }
 
 // Past the ASCII, a byte at a time.
@@ -154,25 +174,35 @@ pub fn ascii_end(s: &[u8], at: usize) -> usize
     blocks_end(s, at + 8)
 }
 
-// Whether a text is all ASCII and shorter than 64 bytes: its first bytes and its last bytes, which may overlap, are two blocks.
-pub fn short_ascii(s: &[u8]) -> bool
-    ensures { λ r. ⌜ r ≡ shortAscii (now (s .entry)) ⌝ }
+// The same from the front of a text of fewer than 64 bytes, in few steps: its first bytes and its last bytes, which may overlap, are two blocks.
+// Of a longer text nothing is read, and the answer is 0.
+pub fn short_end(s: &[u8]) -> usize
+    ensures { λ r. ⌜ r ≡ shortEnd (now (s .entry)) ⌝ }
 {
     let n = s.len();
-    if n < 4 {
-        return bytes_end(s, 0) == n;
+    if 64 <= n {
+        return 0;
     }
     if n < 8 {
-        return ascii4(s, 0) && ascii4(s, n - 4);
+        if 4 <= n && ascii4(s, 0) && ascii4(s, n - 4) {
+            return n;
+        }
+        return bytes_end(s, 0);
     }
     if n < 16 {
-        return ascii8(s, 0) && ascii8(s, n - 8);
+        if ascii8(s, 0) {
+            return past8(s, n - 8);
+        }
+        return past8(s, 0);
     }
     if n < 32 {
-        return ascii16(s, 0) && ascii16(s, n - 16);
+        if ascii16(s, 0) {
+            return past16(s, n - 16);
+        }
+        return past16(s, 0);
     }
-    if n < 64 {
-        return ascii32(s, 0) && ascii32(s, n - 32);
+    if ascii32(s, 0) {
+        return past32(s, n - 32);
     }
-    false
+    past32(s, 0)
 }

@@ -10,14 +10,14 @@ use native.Mathlib.Numerals.{add-one}
 use native.Mathlib.Omega.{arith}
 use lib.Dec.{ltb, leb}
 use lib.ListN.{length, getD, drop, drop-of-length-le}
-use lib.Seq.{drop-cons, drop-drop, drop-length}
-use borrow.Author.Tests.{ltb-true, ltb-false, lt-ltb, le-ltb, leb-true, leb-false, eq-eqb, ne-eqb, eqb-true, not-true, not-false}
-use Rattle.ascii.specs.Ascii.{low, asciiEnd, shortAscii}
+use lib.Seq.{drop-cons, drop-drop}
+use borrow.Author.Tests.{ltb-true, ltb-false, lt-ltb, le-ltb, leb-true, leb-false, eq-eqb, ne-eqb, not-true, not-false}
+use Rattle.ascii.specs.Ascii.{low, asciiEnd, shortEnd}
 use Rattle.ascii.proofs.Low.{by, low-yes, low-no, front-le}
-use Rattle.utf8.specs.declared.Utf8Check.the-variants.{Valid, Bad}
+use Rattle.utf8.specs.declared.Utf8Check.the-variants.{Bad}
 use Rattle.utf8.specs.declared.Step.{Step}
 use Rattle.utf8.specs.declared.Step.the-variants.{Next, Stop}
-use Rattle.utf8.specs.Course.{State, start, more, Move, to, stop, least, most, lead, follow, next, onward, ended, run, checked, Runs, Takes, Fit, Leads, on, off}
+use Rattle.utf8.specs.Course.{State, start, more, Move, to, stop, least, most, lead, follow, next, onward, ended, run, Runs, Takes, Fit, Leads, on, off}
 use Rattle.utf8.specs.Rfc3629.{Within}
 
 no : {A : Type 0} → false ≡ true → A
@@ -130,14 +130,11 @@ module _ (s : List ℕ) (at : ℕ) {r : ℕ} where
       let f : low (drop at s) ≡ suc (low (drop (suc at) s)) = ap low (drop-cons s at 0 h) ∙ low-yes (getD s at 0) (drop (suc at) s) b in
       omega arith
 
-pub short-valid : (s : List ℕ) {r : Bool} → r ≡ shortAscii s → r ≡ true → checked s ≡ Valid
-unfolding shortAscii run
-short-valid s e t =
+pub short-runs : (s : List ℕ) {r : ℕ} → r ≡ shortEnd s → Runs s 0 r
+unfolding shortEnd
+short-runs s e =
     by (ltb (length s) 64)
-    (λ h.
-    let f : low s ≡ length s = eqb-true (low s) (length s) (simp h at (sym e ∙ t)) in
-    low-run s 0 ∙ ap (λ (n : ℕ). run start (0 + n) (drop n s)) f ∙ ap (run start (0 + length s)) (drop-length s))
-    (λ h. no (simp h at (sym e ∙ t)))
+    (λ t. let f = simp t at e in ascii-runs s 0 (omega arith) (omega arith)) (λ t. let f = simp t at e in subst (Runs s 0) (sym f) (stay s 0 (omega arith)))
 
 -- ---- a byte in its range
 module _ (lo hi : ℕ) (s : List ℕ) (at : ℕ) where

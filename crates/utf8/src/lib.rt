@@ -6,7 +6,7 @@ ghost use lib.ListN.{length, getD};
 ghost use Rattle.utf8.specs.Course.{least, most, checked, Takes, Fit, Leads};
 ghost use Rattle.utf8.specs.Rfc3629.{Tells};
 use ascii::ascii_end;
-use ascii::short_ascii;
+use ascii::short_end;
 
 // The answer: all of it is UTF-8, or the place where it breaks. That is the first byte that can neither begin nor continue a character there;
 // of a character that is cut at the end, the end.
@@ -139,7 +139,7 @@ fn quick(s: &[u8]) -> Step
         return Step::Next(0);
     }
     let hot = s.len() - 3;
-    let mut i = 0;
+    let mut i = short_end(s);
     while i < hot {
         let b = s[i];
         if b < 128 {
@@ -177,9 +177,6 @@ pub fn utf8_check(s: &[u8]) -> Utf8Check
     ensures { λ r. ⌜ r ≡ checked (now (s .entry)) ⌝ }
     ensures { λ r. ⌜ Tells (now (s .entry)) r ⌝ }
 {
-    if short_ascii(s) {
-        return Utf8Check::Valid;
-    }
     let mut i = 0;
     match quick(s) {
         Step::Next(j) => {

@@ -29,7 +29,7 @@ past8-requires : tie.Need-past8-requires
 past8-requires c κs = search needs
 
 returns-3 : tie.Need-returns-3
-returns-3 c = c .past8 .ensures ∙ part _ _ (not-all 8 _ _ (c .before .before .ascii8 .ensures) (not-true (c .before .before .ascii8 .result) (c .before .if3 .taken)))
+returns-3 c = c .past8 .ensures ∙ part _ _ 8 (not-all 8 _ _ (c .before .before .ascii8 .ensures) (not-true (c .before .before .ascii8 .result) (c .before .if3 .taken)))
 
 add-blocks-end : tie.Need-add-blocks-end
 add-blocks-end c = search needs

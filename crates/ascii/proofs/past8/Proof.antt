@@ -23,7 +23,7 @@ returns : tie.Need-returns
 returns c =
     let at = c .before .before .args .at in
     ap (λ (x : ℕ). at + trailingZeros 64 (bitAnd x 9259542123273814144) / 8) (c .word-at .ensures)
-    ∙ ap (λ (n : ℕ). at + n) (full-zeros _ at (λ k. c .before .shared-slice-known .given k .fits) (omega arith))
+    ∙ full-zeros _ at (λ k. c .before .shared-slice-known .given k .fits) (omega arith)
 
 pub past8-spec : {M : Type 1} → statement M
 past8-spec = tie.close (tie.spec word-at-requires cast-result add-result returns)

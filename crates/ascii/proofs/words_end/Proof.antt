@@ -31,7 +31,7 @@ past8-requires : tie.Need-past8-requires Inv-loop μ-loop
 past8-requires c κs = omega arith
 
 returns : tie.Need-returns Inv-loop μ-loop
-returns c = c .past8 .ensures ∙ part _ _ (not-all 8 _ _ (c .before .before .ascii8 .ensures) (not-true (c .before .before .ascii8 .result) (c .before .if1 .taken))) ∙ sym (c .before .before .before .before .loop .inv .1)
+returns c = c .past8 .ensures ∙ part _ _ 8 (not-all 8 _ _ (c .before .before .ascii8 .ensures) (not-true (c .before .before .ascii8 .result) (c .before .if1 .taken))) ∙ sym (c .before .before .before .before .loop .inv .1)
 
 add-i : tie.Need-add-i Inv-loop μ-loop
 add-i c = omega arith

@@ -5,7 +5,8 @@ use mathlib.Core.Path.{_∙_}
 use native.Mathlib.Omega.{arith}
 use lib.ListN.{length}
 use Rattle.utf8.specs.Course.{Runs, on, off}
-use Rattle.utf8.proofs.Steps.{stay, then, one, ascii-runs, ascii-more}
+use Rattle.utf8.proofs.Steps.{stay, then, one, ascii-runs, ascii-more, short-runs}
+use borrow.Author.Needs.{needs}
 use Rattle.utf8.proofs.quick.Statement.{statement}
 use Rattle.utf8.proofs.quick.Tie as tie
 
@@ -21,8 +22,11 @@ returns c = on (stay _ 0 (omega arith)) (omega arith)
 sub-hot : tie.Need-sub-hot Inv-loop μ-loop
 sub-hot c = omega arith
 
+short-end-requires : tie.Need-short-end-requires Inv-loop μ-loop
+short-end-requires c κs = search needs
+
 loop-holds : tie.Need-loop-holds Inv-loop μ-loop
-loop-holds c = stay _ 0 (omega arith)
+loop-holds c = short-runs _ (c .short-end .ensures)
 
 shared-slice-read-b : tie.Need-shared-slice-read-b Inv-loop μ-loop
 shared-slice-read-b c = omega arith
@@ -43,7 +47,7 @@ loop-again : tie.Need-loop-again Inv-loop μ-loop
 loop-again c = then (c .before .before .before .before .before .loop .inv) (one _ _ (omega arith) (c .before .before .if2 .taken))
 
 ascii-end-requires : tie.Need-ascii-end-requires Inv-loop μ-loop
-ascii-end-requires c κs = omega arith
+ascii-end-requires c κs = search needs
 
 loop-less-2 : tie.Need-loop-less-2 Inv-loop μ-loop
 loop-less-2 c =
@@ -118,6 +122,7 @@ quick-spec =
     μ-loop
     returns
     sub-hot
+    short-end-requires
     loop-holds
     shared-slice-read-b
     add-if3

@@ -1,11 +1,11 @@
--- A short text that is ASCII is valid; else what `quick` and then `char_at` pass leaves the machine's answer as it is, and its answer is the one that tells.
+-- What `quick` and then `char_at` pass leaves the machine's answer as it is, and its answer is the one that tells.
 -- Assumes nothing.
 use Prim.Native.Nat.{_-_}
 use mathlib.Core.Path.{sym, _∙_}
 use native.Mathlib.Omega.{arith}
 use lib.ListN.{length}
 use Rattle.utf8.specs.Course.{Runs}
-use Rattle.utf8.proofs.Steps.{out, then, short-valid, led, stopped}
+use Rattle.utf8.proofs.Steps.{out, then, led, stopped}
 use Rattle.utf8.proofs.Answers.{told}
 use borrow.Author.Needs.{needs}
 use Rattle.utf8.proofs.utf8_check.Statement.{statement}
@@ -17,12 +17,6 @@ Inv-loop s i₀ i = Runs s 0 i
 abbrev μ-loop : tie.MeasureT-loop
 μ-loop s i₀ i = length s - i
 
-short-ascii-requires : tie.Need-short-ascii-requires Inv-loop μ-loop
-short-ascii-requires c κs = search needs
-
-returns : tie.Need-returns Inv-loop μ-loop
-returns c = told (sym (short-valid _ (c .before .short-ascii .ensures) (c .if1 .taken)))
-
 quick-requires : tie.Need-quick-requires Inv-loop μ-loop
 quick-requires c κs = search needs
 
@@ -32,8 +26,8 @@ enum-known-j c = search needs
 enum-known-p : tie.Need-enum-known-p Inv-loop μ-loop
 enum-known-p c = search needs
 
-returns-2 : tie.Need-returns-2 Inv-loop μ-loop
-returns-2 c = told (sym (stopped (c .before .p .given .1) (c .before .before .before .quick .ensures)))
+returns : tie.Need-returns Inv-loop μ-loop
+returns c = told (sym (stopped (c .before .p .given .1) (c .before .before .before .quick .ensures)))
 
 loop-holds : tie.Need-loop-holds Inv-loop μ-loop
 loop-holds c = led (c .before .j .given .1) (c .before .before .before .quick .ensures) .1
@@ -53,11 +47,11 @@ loop-again c = then (c .before .before .before .before .before .loop .inv) (led 
 enum-known-p-2 : tie.Need-enum-known-p-2 Inv-loop μ-loop
 enum-known-p-2 c = search needs
 
-returns-3 : tie.Need-returns-3 Inv-loop μ-loop
-returns-3 c = told (sym (c .before .before .before .before .before .loop .inv .same ∙ stopped (c .before .p2 .given .1) (c .before .before .before .char-at .ensures)))
+returns-2 : tie.Need-returns-2 Inv-loop μ-loop
+returns-2 c = told (sym (c .before .before .before .before .before .loop .inv .same ∙ stopped (c .before .p2 .given .1) (c .before .before .before .char-at .ensures)))
 
-returns-4 : tie.Need-returns-4 Inv-loop μ-loop
-returns-4 c = told (sym (c .before .loop .inv .same ∙ out _ _ _ (c .loop-test .left)))
+returns-3 : tie.Need-returns-3 Inv-loop μ-loop
+returns-3 c = told (sym (c .before .loop .inv .same ∙ out _ _ _ (c .loop-test .left)))
 
 pub utf8-check-spec : {M : Type 1} → statement M
 utf8-check-spec =
@@ -65,17 +59,15 @@ utf8-check-spec =
     (tie.spec
     Inv-loop
     μ-loop
-    short-ascii-requires
-    returns
     quick-requires
     enum-known-j
     enum-known-p
-    returns-2
+    returns
     loop-holds
     char-at-requires
     enum-known-j-2
     loop-less
     loop-again
     enum-known-p-2
-    returns-3
-    returns-4)
+    returns-2
+    returns-3)
