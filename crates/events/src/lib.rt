@@ -68,7 +68,7 @@ fn kind_code(k: Kind) -> u32
 }
 
 // The type code of a value.
-pub fn code_of(x: Value) -> u32
+fn code_of(x: Value) -> u32
     ensures { λ r. ⌜ r ≡ codeOf x ⌝ }
 {
     match x {
@@ -123,7 +123,7 @@ fn scalar_part(t: JsonbType, s: Scalar, from: u32) -> Span
 }
 
 // The bytes that an event shows of a value.
-pub fn part_of(x: Value, from: u32) -> Span
+fn part_of(x: Value, from: u32) -> Span
     ensures { λ r. ⌜ r ≡ partOf x from ⌝ }
 {
     match x {
@@ -148,7 +148,7 @@ fn scalar_extra(s: Scalar) -> u32
 }
 
 // A container's count, an opaque value's column type, or 0.
-pub fn extra_of(x: Value) -> u32
+fn extra_of(x: Value) -> u32
     ensures { λ r. ⌜ r ≡ extraOf x ⌝ }
 {
     match x {
