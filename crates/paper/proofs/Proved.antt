@@ -17,11 +17,16 @@ use Rattle.codes.specs.Types.{typeOf}
 use Rattle.codes.specs.Literals.{typeOf as literalType}
 use Rattle.layout.specs.Layout.{offsetSize, keyEntry, keyPlace, valuePlace, headerSize, offsetAt}
 use Rattle.content.specs.Reading.{headerAt, literalAt, numberAt, partAt, stringAt, contentAt, placeFault, readAt, headerRead}
-use Rattle.entry.specs.Entries.{pointedAt, typedEntry, entryAt, keyOf, keyEntryAt}
+use Rattle.entry.specs.Entries.{pointedAt, typedEntry, entryAt, keyOf, keyEntryAt, startOf, valueStart}
 use Rattle.jsonb.specs.Said.{Said}
 use Rattle.jsonb.specs.Views.{rootRead, matches, gated, elemAt, keyAt}
+use Rattle.utf8.specs.Course.{lead, run}
+use Rattle.events.specs.Events.{kindCode, bytesFrom}
+use Rattle.events.specs.Text.{isText}
+use Rattle.walk.specs.Paths.{gather, tree, paths, lastOf, said, scan}
+use Rattle.walk.specs.Shown.{cut, flat, ends, shown}
 use Rattle.paper.specs.Paper.{Row, Thing, prints, printedOr, rootView, asked, table}
 
 pub proved : map (λ (r : Row × Said Thing). asked (r .0)) table ≡ map (λ (r : Row × Said Thing). r .1) table
-unfolding prints digitsOk wellAt wellFormed number digits tab width groupsOf side digitsAt offset flip flipFirst digitsIn inRange groupAt rangeAt unitOf storedAt groupsIn readGroups groupDigits digitsTo unpadded wholeDigits fractionText negative decimalOf leadingIn without finished fromGroups readBin readPacked printed printedOr value le groups searched typeOf literalType offsetSize keyEntry keyPlace valuePlace headerSize offsetAt headerAt literalAt numberAt partAt stringAt contentAt placeFault readAt headerRead pointedAt typedEntry entryAt keyOf keyEntryAt rootRead matches gated elemAt keyAt rootView asked
+unfolding prints digitsOk wellAt wellFormed number digits tab width groupsOf side digitsAt offset flip flipFirst digitsIn inRange groupAt rangeAt unitOf storedAt groupsIn readGroups groupDigits digitsTo unpadded wholeDigits fractionText negative decimalOf leadingIn without finished fromGroups readBin readPacked printed printedOr value le groups searched typeOf literalType offsetSize keyEntry keyPlace valuePlace headerSize offsetAt headerAt literalAt numberAt partAt stringAt contentAt placeFault readAt headerRead pointedAt typedEntry entryAt keyOf keyEntryAt rootRead matches gated elemAt keyAt rootView startOf valueStart lead run kindCode bytesFrom isText gather tree paths lastOf said scan cut flat ends shown asked
 proved = refl

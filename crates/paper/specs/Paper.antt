@@ -3,7 +3,7 @@
 -- Assumes nothing.
 use Prim.Native.Nat.{ℕ}
 use mathlib.Core.Bool.{Bool, true, false, cond}
-use mathlib.Core.List.{List, [], _∷_}
+use mathlib.Core.List.{List, [], _∷_, _++_}
 use lib.Dec.{eqb}
 use lib.IntN.{ℤ, negsuc}
 use lib.ListN.{take, drop}
@@ -24,6 +24,9 @@ use Rattle.value.specs.declared.Value.the-variants as value
 use Rattle.content.specs.Reading.{kind, span, view}
 use Rattle.jsonb.specs.Said.{Said, says, nothing, refuses, readSaid}
 use Rattle.jsonb.specs.Views.{rootRead, elemAt, keyAt}
+use Rattle.events.specs.declared.Walked.{Walked}
+use Rattle.events.specs.declared.Walked.the-variants.{Done, Stopped}
+use Rattle.walk.specs.Shown.{flat, ends, shown}
 
 pub data Row : Type 0 where
   -- a packed decimal, with its precision kept or not
@@ -36,6 +39,8 @@ pub data Row : Type 0 where
   element : List ℕ → ℕ → Row
   string : List ℕ → ℕ → Row
   key : List ℕ → ℕ → Row
+  -- the walk of a document in room for so many events
+  walk : List ℕ → ℕ → Row
 
 pub data Thing : Type 0 where
   -- the characters that a decimal prints, or the bytes of a string
@@ -44,6 +49,8 @@ pub data Thing : Type 0 where
   valued : Value → Thing
   -- where a key stands
   keyed : Span → Thing
+  -- the numbers of a walk's events, eight each, and how it ends
+  listed : List ℕ → Walked → Thing
 
 -- ---- decimals: what one prints, or 26; or what reading it refused
 unfoldable pub prints : Decimal → Said Thing
@@ -83,6 +90,7 @@ asked (root d) = further (λ x. says (valued x)) (readSaid (rootRead d))
 asked (element d i) = further (λ v. further (λ x. says (valued x)) (elemAt d v i)) (rootView d)
 asked (string d i) = further (λ v. further (bytesOf d) (elemAt d v i)) (rootView d)
 asked (key d i) = further (λ v. further (λ s. says (keyed s)) (keyAt d v i)) (rootView d)
+asked (walk d k) = says (listed (flat (shown d k)) (ends (shown d k) 0))
 
 -- ---- answers by their numbers
 abbrev pub container : Bool → Bool → ℕ → ℕ → ℕ → Said Thing
@@ -94,13 +102,24 @@ is t s = says (valued (value.Scalar t s))
 abbrev pub int : JsonbType → ℤ → Said Thing
 int t z = is t (scalar.Number (number.Int z))
 
+-- events one after the other, and how the walk ends
+abbrev pub joined : List (List ℕ) → List ℕ
+joined [] = []
+joined (e ∷ es) = e ++ joined es
+
+abbrev pub lists : List (List ℕ) → Walked → Said Thing
+lists es w = says (listed (joined es) w)
+
 -- ---- the documents
 abbrev pub trueAndMinusTwo : List ℕ
 trueAndMinusTwo = 0x02 ∷ 0x02 ∷ 0x00 ∷ 0x0A ∷ 0x00 ∷ 0x04 ∷ 0x01 ∷ 0x00 ∷ 0x05 ∷ 0xFE ∷ 0xFF ∷ []
 
--- an object whose member a is Zoë, over the offset of its key
+-- an object whose member a is Zoë, over the offset of its key and over its last byte too
+abbrev pub zoeEnding : ℕ → ℕ → List ℕ
+zoeEnding offset b = 0x00 ∷ 0x01 ∷ 0x00 ∷ 0x11 ∷ 0x00 ∷ offset ∷ 0x00 ∷ 0x01 ∷ 0x00 ∷ 0x0C ∷ 0x0C ∷ 0x00 ∷ 0x61 ∷ 0x04 ∷ 0x5A ∷ 0x6F ∷ 0xC3 ∷ b ∷ []
+
 abbrev pub zoe : ℕ → List ℕ
-zoe offset = 0x00 ∷ 0x01 ∷ 0x00 ∷ 0x11 ∷ 0x00 ∷ offset ∷ 0x00 ∷ 0x01 ∷ 0x00 ∷ 0x0C ∷ 0x0C ∷ 0x00 ∷ 0x61 ∷ 0x04 ∷ 0x5A ∷ 0x6F ∷ 0xC3 ∷ 0xAB ∷ []
+zoe offset = zoeEnding offset 0xAB
 
 -- an array whose first element is a string, over its offset
 abbrev pub among : ℕ → List ℕ
@@ -112,6 +131,25 @@ pointed = 0x02 ∷ 0x01 ∷ 0x00 ∷ 0x0B ∷ 0x00 ∷ 0x07 ∷ 0x07 ∷ 0x00 �
 
 abbrev pub inlined : List ℕ
 inlined = 0x03 ∷ 0x01 ∷ 0x00 ∷ 0x00 ∷ 0x00 ∷ 0x0D ∷ 0x00 ∷ 0x00 ∷ 0x00 ∷ 0x07 ∷ 0xFF ∷ 0xFF ∷ 0xFF ∷ 0xFF ∷ []
+
+-- ---- events: the root of an array and its two elements; the root of an object and its member; an empty document's null
+abbrev pub arrayRoot : List ℕ
+arrayRoot = 2 ∷ 0 ∷ 0 ∷ 0 ∷ 0 ∷ 1 ∷ 10 ∷ 2 ∷ []
+
+abbrev pub isTrue : List ℕ
+isTrue = 4 ∷ 1 ∷ 0 ∷ 0 ∷ 0 ∷ 6 ∷ 1 ∷ 0 ∷ []
+
+abbrev pub isMinusTwo : List ℕ
+isMinusTwo = 5 ∷ 1 ∷ 1 ∷ 0 ∷ 0 ∷ 9 ∷ 2 ∷ 0 ∷ []
+
+abbrev pub objectRoot : List ℕ
+objectRoot = 0 ∷ 0 ∷ 0 ∷ 0 ∷ 0 ∷ 1 ∷ 17 ∷ 1 ∷ []
+
+abbrev pub isZoe : List ℕ
+isZoe = 12 ∷ 1 ∷ 0 ∷ 12 ∷ 1 ∷ 14 ∷ 4 ∷ 0 ∷ []
+
+abbrev pub emptyNull : List ℕ
+emptyNull = 4 ∷ 0 ∷ 0 ∷ 0 ∷ 0 ∷ 0 ∷ 0 ∷ 0 ∷ []
 
 abbrev pub table : List (Row × Said Thing)
 table =
@@ -141,4 +179,13 @@ table =
     -- both hold -1
     ∷ (element pointed 0, int type.Int32 (negsuc 0))
     ∷ (element inlined 0, int type.Int32 (negsuc 0))
+    -- the array of true and -2, walked: three events; with room for two it is 12 at the entry of -2
+    ∷ (walk trueAndMinusTwo 2048, lists (arrayRoot ∷ isTrue ∷ isMinusTwo ∷ []) (Done 3))
+    ∷ (walk trueAndMinusTwo 2, lists (arrayRoot ∷ isTrue ∷ []) (Stopped 12 8 2))
+    -- the object of Zoë; a last byte that ends no character is 9 at the value's entry, a key's offset of 0A is 5 at the key's
+    ∷ (walk (zoe 0x0B) 2048, lists (objectRoot ∷ isZoe ∷ []) (Done 2))
+    ∷ (walk (zoeEnding 0x0B 0x22) 2048, lists (objectRoot ∷ []) (Stopped 9 9 1))
+    ∷ (walk (zoe 0x0A) 2048, lists (objectRoot ∷ []) (Stopped 5 5 1))
+    -- the empty document
+    ∷ (walk [] 2048, lists (emptyNull ∷ []) (Done 1))
     ∷ []
