@@ -1,22 +1,15 @@
-// Runs worked examples of iterations over a container of binary JSON, and of decimals that a document holds, a line each: the question, and what
-// the library answers. The items of an iteration are parted by semicolons.
-use codes::ColumnType;
+// Runs the worked examples of iterations over a container of binary JSON, a line each: the question, and what the library answers. The items of an
+// iteration are parted by semicolons.
 use jsonb::Elements;
 use jsonb::Keys;
 use jsonb::Members;
-use jsonb::Read;
-use jsonb::Scalar;
-use jsonb::Value;
 use jsonb::View;
 use words::root_view;
 use words::say;
-use words::say_answer;
 use words::say_container;
-use words::say_document;
 use words::say_found;
 use words::say_key;
 use words::say_member;
-use words::say_refused;
 
 fn part(at: u32) {
     if 0 < at {
@@ -97,30 +90,6 @@ fn keys(doc: &[u8], v: View) {
 fn members(doc: &[u8], v: View) {
     say(b"members");
     steps(doc, v, Over::Members);
-}
-
-// The decimal of an opaque value, with its precision kept; other values are none.
-fn say_decimal_of(doc: &[u8], x: Value) {
-    if let Value::Scalar(_, s) = x {
-        if let Scalar::Opaque(t, p) = s {
-            if let ColumnType::Newdecimal = t {
-                say_answer(opaque::opaque_decimal(doc, p, true));
-                return;
-            }
-        }
-    }
-    say(b"other");
-}
-
-// The decimal that is the root.
-fn decimal(doc: &[u8]) {
-    say(b"decimal ");
-    say_document(doc);
-    match jsonb::deserialize(doc) {
-        Read::Value(x) => say_decimal_of(doc, x),
-        Read::Refused(n) => say_refused(n),
-    }
-    say(b"\n");
 }
 
 // An array of true and -2, and one whose second of three elements is no literal.
@@ -239,17 +208,9 @@ fn refused_examples() {
     elements(&array, other);
 }
 
-// -12.34; a decimal whose bytes are too few; and a string.
-fn decimal_examples() {
-    decimal(&[0x0F, 0xF6, 0x04, 0x04, 0x02, 0x73, 0xDD]);
-    decimal(&[0x0F, 0xF6, 0x03, 0x04, 0x02, 0x73, 0xDD]);
-    decimal(&[0x0C, 0x04, 0x04, 0x02, 0x73, 0xDD]);
-}
-
 fn main() {
     element_examples();
     member_examples();
     faulty_member_examples();
     refused_examples();
-    decimal_examples();
 }

@@ -1,23 +1,15 @@
 // Runs the worked examples of views of binary JSON, a line each: the question, and what the library answers. A view is told as its kind's code, its
 // start, its count and its size.
-use jsonb::Found;
-use jsonb::Key;
-use jsonb::Scalar;
-use jsonb::Span;
-use jsonb::Value;
 use jsonb::View;
-use raw::Length;
 use words::root_view;
 use words::say;
 use words::say_container;
 use words::say_count;
 use words::say_document;
 use words::say_found;
-use words::say_hex;
 use words::say_key;
 use words::say_number;
 use words::say_read;
-use words::say_refused;
 
 fn root(doc: &[u8]) {
     say(b"root ");
@@ -48,93 +40,6 @@ fn key(doc: &[u8], v: View, pos: u32) {
     say_key(jsonb::key_at(doc, v, pos));
     say(b"\n");
 }
-
-// ---- bytes of the document
-
-fn is_printed(b: u8) -> bool {
-    if b < 32 {
-        return false;
-    }
-    b < 127
-}
-
-fn all_printed(bytes: &[u8]) -> bool {
-    for i in 0..bytes.len() {
-        if !is_printed(bytes[i]) {
-            return false;
-        }
-    }
-    true
-}
-
-// Bytes as text between quotation marks where all are ASCII that prints, else in hexadecimal digits.
-fn say_bytes(bytes: &[u8]) {
-    if all_printed(bytes) {
-        say(b"\"");
-        say(bytes);
-        say(b"\"");
-    } else {
-        say_hex(bytes);
-    }
-}
-
-fn say_part(doc: &[u8], s: Span) {
-    let start = s.start as usize;
-    let end = start + s.len as usize;
-    if end <= doc.len() {
-        say_bytes(&doc[start..end]);
-    }
-    say(b"\n");
-}
-
-// The bytes of an element that is a string.
-fn element_bytes(doc: &[u8], v: View, pos: u32) {
-    let Found::Value(x) = jsonb::elem_at(doc, v, pos) else {
-        return;
-    };
-    let Value::Scalar(_, s) = x else {
-        return;
-    };
-    let Scalar::String(p) = s else {
-        return;
-    };
-    say(b"bytes of element ");
-    say_number(pos as u64);
-    say_container(doc, v);
-    say_part(doc, p);
-}
-
-fn key_bytes(doc: &[u8], v: View, pos: u32) {
-    let Key::Key(p) = jsonb::key_at(doc, v, pos) else {
-        return;
-    };
-    say(b"bytes of key ");
-    say_number(pos as u64);
-    say_container(doc, v);
-    say_part(doc, p);
-}
-
-// ---- length fields: the length, and the place past the field
-
-fn say_length(l: Length) {
-    match l {
-        Length::Field { length, next } => {
-            say_number(length as u64);
-            say(b", and the field ends at ");
-            say_number(next as u64);
-        }
-        Length::Refused(n) => say_refused(n),
-    }
-}
-
-fn length(doc: &[u8]) {
-    say(b"length ");
-    say_document(doc);
-    say_length(raw::length_at(doc, 0, doc.len()));
-    say(b"\n");
-}
-
-// ---- the examples
 
 // An array of true and -2. Its view with another count, and its keys, which it has not.
 fn array_examples() {
@@ -194,9 +99,7 @@ fn object_examples() {
     let v = root_view(&doc);
     root(&doc);
     key(&doc, v, 0);
-    key_bytes(&doc, v, 0);
     element(&doc, v, 0);
-    element_bytes(&doc, v, 0);
     doc[5] = 0x0A;
     key(&doc, v, 0);
 }
@@ -220,7 +123,6 @@ fn string_examples() {
     ];
     let v = root_view(&doc);
     element(&doc, v, 0);
-    element_bytes(&doc, v, 0);
     element(&doc, v, 1);
     doc[6] = 0x06;
     element(&doc, v, 0);
@@ -287,11 +189,6 @@ fn scalar_examples() {
     root(&[0x0F, 0xF6, 0x04, 0x04, 0x02, 0x73, 0xDD]);
 }
 
-fn length_examples() {
-    length(&[0x80, 0x80, 0x80, 0x80, 0x0F]);
-    length(&[0x80, 0x80, 0x80, 0x80, 0x10]);
-}
-
 fn main() {
     array_examples();
     object_examples();
@@ -300,5 +197,4 @@ fn main() {
     header_examples();
     literal_examples();
     scalar_examples();
-    length_examples();
 }

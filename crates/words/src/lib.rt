@@ -1,7 +1,4 @@
-// The words in which programs print questions and answers: bytes in hexadecimal digits, a refusal by its number, a value and a decimal by their numbers.
-use decimal::Answer;
-use decimal::Counted;
-use decimal::Decimal;
+// The words in which programs print questions and answers: bytes in hexadecimal digits, a refusal by its number, a value by its numbers.
 use jsonb::Count;
 use jsonb::Found;
 use jsonb::Key;
@@ -25,7 +22,8 @@ pub fn say_number(n: u64) {
     io::print_decimal(STDOUT_FILENO, n);
 }
 
-fn say_next(n: u64) {
+// After a space.
+pub fn say_next(n: u64) {
     say(b" ");
     say_number(n);
 }
@@ -39,13 +37,8 @@ fn wide(b: u8) -> u64 {
     b as u64
 }
 
-fn say_front(text: &[u8], n: usize) {
-    if n <= text.len() {
-        say(&text[..n]);
-    }
-}
-
-fn say_front_hex(bytes: &[u8], n: usize) {
+// The first bytes in hexadecimal digits.
+pub fn say_front_hex(bytes: &[u8], n: usize) {
     if n <= bytes.len() {
         for i in 0..n {
             io::print_hex(STDOUT_FILENO, wide(bytes[i]), 2);
@@ -251,45 +244,5 @@ pub fn say_count(c: Count) {
     match c {
         Count::Count(n) => say_number(n as u64),
         Count::Refused(n) => say_refused(n),
-    }
-}
-
-// ---- decimals
-
-fn say_text(d: Decimal) {
-    let mut text = [0u8; 68];
-    match d.print(&mut text) {
-        Counted::Bytes(n) => say_front(&text, n),
-        Counted::Refused(n) => say_refused(n),
-    }
-}
-
-fn say_written(d: Decimal) {
-    let mut room = [0u8; 32];
-    match d.write_bin(&mut room) {
-        Counted::Bytes(n) => say_front_hex(&room, n),
-        Counted::Refused(n) => say_refused(n),
-    }
-}
-
-// Both counts of digits, the sign, what it prints and what it writes.
-fn say_decimal(d: Decimal) {
-    say_number(d.intg as u64);
-    say_next(d.frac as u64);
-    if d.sign {
-        say(b" - ");
-    } else {
-        say(b" + ");
-    }
-    say_text(d);
-    say(b" ");
-    say_written(d);
-}
-
-pub fn say_answer(a: Answer) {
-    if a.refusal == 0 {
-        say_decimal(a.decimal);
-    } else {
-        say_refused(a.refusal);
     }
 }

@@ -4,8 +4,8 @@ use Prim.Native.Nat.{_≤_, _-_}
 use native.Mathlib.Omega.{arith}
 use lib.ListN.{length}
 use borrow.Author.Needs.{needs}
-use Rattle.view_examples.proofs.all_printed.Statement.{statement}
-use Rattle.view_examples.proofs.all_printed.Tie as tie
+use Rattle.part_examples.proofs.all_printed.Statement.{statement}
+use Rattle.part_examples.proofs.all_printed.Tie as tie
 
 abbrev Inv-loop : tie.InvT-loop
 Inv-loop bytes i₀ i-end i = i ≤ length bytes

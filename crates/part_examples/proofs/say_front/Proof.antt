@@ -4,8 +4,8 @@ use denote.Ref.{now}
 use mathlib.Core.Path.{sym}
 use lib.Seq.{length-take-le}
 use borrow.Author.Needs.{needs}
-use Rattle.words.proofs.say_front.Statement.{statement}
-use Rattle.words.proofs.say_front.Tie as tie
+use Rattle.part_examples.proofs.say_front.Statement.{statement}
+use Rattle.part_examples.proofs.say_front.Tie as tie
 
 slice-aggregate-say : tie.Need-slice-aggregate-say
 slice-aggregate-say c = let a = c .before .before .before .args in sym (length-take-le (a .n) (now (a .text)) (search needs))
