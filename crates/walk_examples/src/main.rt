@@ -32,18 +32,38 @@ fn say_cells(lent: &[u32], from: usize, end: usize) {
     }
 }
 
+fn say_first(lent: &[u32], n: usize) {
+    if n <= lent.len() / 8 {
+        say_cells(lent, 0, 8 * n);
+    }
+}
+
+fn say_last(lent: &[u32], n: usize) {
+    if n <= lent.len() / 8 {
+        if 1 <= n {
+            say_cells(lent, 8 * n - 8, 8 * n);
+        }
+    }
+}
+
 // The first n events; of more than eight only the last.
 fn say_events(lent: &[u32], n: usize) {
     say_number(n as u64);
     say(b" events");
-    if n <= lent.len() / 8 {
-        if n <= 8 {
-            say_cells(lent, 0, 8 * n);
-        } else {
-            say(b", the last");
-            say_cells(lent, 8 * n - 8, 8 * n);
-        }
+    if n <= 8 {
+        say_first(lent, n);
+    } else {
+        say(b", the last");
+        say_last(lent, n);
     }
+    say(b"\n");
+}
+
+fn say_stopped(number: u8, place: usize) {
+    say_refused(number);
+    say(b" at ");
+    say_number(place as u64);
+    say(b" after ");
 }
 
 fn say_walked(lent: &[u32], w: Walked) {
@@ -54,22 +74,22 @@ fn say_walked(lent: &[u32], w: Walked) {
             place,
             count,
         } => {
-            say_refused(number);
-            say(b" at ");
-            say_number(place as u64);
-            say(b" after ");
+            say_stopped(number, place);
             say_events(lent, count);
         }
     }
-    say(b"\n");
+}
+
+fn say_question(n: usize, doc: &[u8]) {
+    say(b"walk with ");
+    say_number(n as u64);
+    say(b" of ");
+    say_document(doc);
 }
 
 // Walks a document with these numbers lent.
 fn lend(doc: &[u8], lent: &mut [u32]) {
-    say(b"walk with ");
-    say_number(lent.len() as u64);
-    say(b" of ");
-    say_document(doc);
+    say_question(lent.len(), doc);
     let w = walk::walk(doc, lent);
     say_walked(lent, w);
 }
@@ -114,13 +134,18 @@ fn put_nested(doc: &mut [u8]) {
     }
 }
 
-// Walks true inside arrays: seven bytes are an array.
+// Seven bytes are an array.
+fn say_nested(len: usize) {
+    say(b"walk with 816 of true inside ");
+    say_number((len / 7) as u64);
+    say(b" arrays: ");
+}
+
+// Walks true inside arrays.
 fn nested(doc: &mut [u8]) {
     let mut lent = [0u32; 816];
     put_nested(doc);
-    say(b"walk with 816 of true inside ");
-    say_number((doc.len() / 7) as u64);
-    say(b" arrays: ");
+    say_nested(doc.len());
     let w = walk::walk(doc, &mut lent);
     say_walked(&lent, w);
 }
@@ -134,188 +159,78 @@ fn nested_examples() {
 
 // ---- the examples
 
-// An array of true and -2: with room to spare, with room for two events, also where numbers are left over, and with none.
-fn room_examples() {
-    let doc = [
-        0x02,
-        0x02,
-        0x00,
-        0x0A,
-        0x00,
-        0x04,
-        0x01,
-        0x00,
-        0x05,
-        0xFE,
-        0xFF,
-    ];
-    list(&doc);
+// Room to spare; room for two events, also where numbers are left over; and none.
+fn room_examples(doc: &[u8]) {
+    list(doc);
     let mut two = [0u32; 16];
-    lend(&doc, &mut two);
-    let mut nearly_three = [0u32; 23];
-    lend(&doc, &mut nearly_three);
+    lend(doc, &mut two);
     let mut seven = [0u32; 7];
-    lend(&doc, &mut seven);
+    lend(doc, &mut seven);
     let mut none = [0u32; 0];
-    lend(&doc, &mut none);
+    lend(doc, &mut none);
 }
 
-// Two numbers past the events of a walk, that were set before it: one right behind the last event, one at the end.
-fn untouched_examples() {
-    let doc = [
-        0x02,
-        0x02,
-        0x00,
-        0x0A,
-        0x00,
-        0x04,
-        0x01,
-        0x00,
-        0x05,
-        0xFE,
-        0xFF,
-    ];
+fn say_kept(at: u64, before: u64, after: u32) {
+    say(b"then number ");
+    say_number(at);
+    say(b", which was ");
+    say_number(before);
+    say(b": ");
+    say_number(wide(after));
+    say(b"\n");
+}
+
+// A number that was set before a walk, right behind its three events.
+fn kept_after_events(doc: &[u8]) {
     let mut lent = [0u32; 64];
     lent[24] = 77;
-    lent[63] = 78;
-    lend(&doc, &mut lent);
-    say(b"then numbers 24 and 63, which were 77 and 78: ");
-    say_number(wide(lent[24]));
-    say(b" and ");
-    say_number(wide(lent[63]));
-    say(b"\n");
+    lend(doc, &mut lent);
+    say_kept(24, 77, lent[24]);
 }
 
-// The same where a walk is refused for want of room: number 16 would begin the event that found none.
-fn untouched_at_refusal() {
-    let doc = [
-        0x02,
-        0x02,
-        0x00,
-        0x0A,
-        0x00,
-        0x04,
-        0x01,
-        0x00,
-        0x05,
-        0xFE,
-        0xFF,
-    ];
+// And one where the third event would begin, with room for two.
+fn kept_at_refusal(doc: &[u8]) {
     let mut lent = [0u32; 23];
-    lent[16] = 79;
-    lend(&doc, &mut lent);
-    say(b"then number 16, which was 79: ");
-    say_number(wide(lent[16]));
-    say(b"\n");
+    lent[16] = 78;
+    lend(doc, &mut lent);
+    say_kept(16, 78, lent[16]);
+}
+
+// An array of true and -2.
+fn array_examples() {
+    let doc = b"\x02\x02\x00\x0A\x00\x04\x01\x00\x05\xFE\xFF";
+    room_examples(doc);
+    kept_after_events(doc);
+    kept_at_refusal(doc);
 }
 
 // An object whose member a is Zoë; then its last byte ends no character; then the key's offset is before the header's end.
 fn object_examples() {
-    let mut doc = [
-        0x00,
-        0x01,
-        0x00,
-        0x11,
-        0x00,
-        0x0B,
-        0x00,
-        0x01,
-        0x00,
-        0x0C,
-        0x0C,
-        0x00,
-        0x61,
-        0x04,
-        0x5A,
-        0x6F,
-        0xC3,
-        0xAB,
-    ];
-    list(&doc);
-    doc[17] = 0x22;
-    list(&doc);
-    doc[5] = 0x0A;
-    list(&doc);
+    list(b"\x00\x01\x00\x11\x00\x0B\x00\x01\x00\x0C\x0C\x00\x61\x04\x5A\x6F\xC3\xAB");
+    list(b"\x00\x01\x00\x11\x00\x0B\x00\x01\x00\x0C\x0C\x00\x61\x04\x5A\x6F\xC3\x22");
+    list(b"\x00\x01\x00\x11\x00\x0A\x00\x01\x00\x0C\x0C\x00\x61\x04\x5A\x6F\xC3\xAB");
 }
 
 // A root string and a key that are not UTF-8.
 fn text_examples() {
-    list(&[0x0C, 0x01, 0xFF]);
-    list(
-        &[
-            0x00,
-            0x01,
-            0x00,
-            0x0C,
-            0x00,
-            0x0B,
-            0x00,
-            0x01,
-            0x00,
-            0x04,
-            0x01,
-            0x00,
-            0xFF,
-        ],
-    );
+    list(b"\x0C\x01\xFF");
+    list(b"\x00\x01\x00\x0C\x00\x0B\x00\x01\x00\x04\x01\x00\xFF");
 }
 
 // Two members with the key a, and two elements that are the same bytes: none is left out.
 fn twice_examples() {
-    list(
-        &[
-            0x00,
-            0x02,
-            0x00,
-            0x14,
-            0x00,
-            0x12,
-            0x00,
-            0x01,
-            0x00,
-            0x13,
-            0x00,
-            0x01,
-            0x00,
-            0x04,
-            0x01,
-            0x00,
-            0x05,
-            0xFE,
-            0xFF,
-            0x61,
-            0x61,
-        ],
-    );
-    list(
-        &[
-            0x02,
-            0x02,
-            0x00,
-            0x0C,
-            0x00,
-            0x0C,
-            0x0A,
-            0x00,
-            0x0C,
-            0x0A,
-            0x00,
-            0x01,
-            0x41,
-        ],
-    );
+    list(b"\x00\x02\x00\x14\x00\x12\x00\x01\x00\x13\x00\x01\x00\x04\x01\x00\x05\xFE\xFF\x61\x61");
+    list(b"\x02\x02\x00\x0C\x00\x0C\x0A\x00\x0C\x0A\x00\x01\x41");
 }
 
 // Bytes after the root, and the empty document.
 fn end_examples() {
-    list(&[0x04, 0x01, 0xFF, 0x00]);
+    list(b"\x04\x01\xFF\x00");
     list(&[]);
 }
 
 fn main() {
-    room_examples();
-    untouched_examples();
-    untouched_at_refusal();
+    array_examples();
     object_examples();
     text_examples();
     twice_examples();
