@@ -10,7 +10,7 @@ use lib.Dec.{ltb, leb}
 use lib.ListN.{length, getD, take, drop, drop-of-length-le, length-drop}
 use lib.Seq.{drop-cons, drop-drop}
 use borrow.Author.Tests.{ltb-true, ltb-false, lt-ltb, le-ltb, leb-true, leb-false, le-leb, lt-leb}
-use Rattle.ascii.specs.Ascii.{low, asciiEnd, shortEnd}
+use Rattle.ascii.specs.Ascii.{low, asciiEnd, front}
 use Rattle.ascii.specs.Words.{ascii, past, Behind}
 
 pub by : {A : Type 0} (t : Bool) → (t ≡ true → A) → (t ≡ false → A) → A
@@ -99,10 +99,13 @@ module _ (s : List ℕ) (at : ℕ) where
       let e : low (drop at s) ≡ suc (low (drop (suc at) s)) = ap low (drop-cons s at 0 h) ∙ low-yes (getD s at 0) (drop (suc at) s) b in
       pass (at + 1) (omega arith) (omega arith)
 
-  -- where not all of the next n bytes are ASCII, they tell
-  pub part : (n : ℕ) → low (drop at s) < n → past n s at ≡ asciiEnd s at
+  -- where the ASCII ends among the next n bytes, or right behind them, they tell
+  pub upto : (n : ℕ) → low (drop at s) ≤ n → past n s at ≡ asciiEnd s at
   unfolding past
-  part n h = ap (λ (k : ℕ). at + k) (low-some n (drop at s) (omega arith))
+  upto n h = ap (λ (k : ℕ). at + k) (low-some n (drop at s) h)
+
+  pub part : (n : ℕ) → low (drop at s) < n → past n s at ≡ asciiEnd s at
+  part n h = upto n (omega arith)
 
 -- ---- blocks
 module _ {r : Bool} (n : ℕ) (s : List ℕ) (at : ℕ) where
@@ -152,7 +155,16 @@ module _ (m n : ℕ) (s : List ℕ) (at : ℕ) where
   pub past-first : low (drop at s) < m → past m s at ≡ past (m + n) s at
   past-first h = part s at m h ∙ sym (part s at (m + n) (omega arith))
 
--- ---- behind a word
+-- ---- behind a block
+module _ (m : ℕ) (s : List ℕ) (at : ℕ) (h : m ≤ low (drop at s)) where
+  -- the end is the same
+  pub beyond : asciiEnd s (at + m) ≡ asciiEnd s at
+  beyond = sym (pass s at (at + m) (omega arith) (omega arith))
+
+  -- where it is among k bytes more, it is among those
+  pub left : (k : ℕ) → at + (m + k) ≤ length s → low (drop at s) < m + k → (at + m + k ≤ length s) × (low (drop (at + m) s) < k)
+  left k w g = let e = beyond in (omega arith, omega arith)
+
 pub behind : (n : ℕ) (s : List ℕ) (at : ℕ) → 8 ≤ n → at ≤ length s → n ≤ low (drop at s) → Behind s (at + n)
 behind n s at h w g =
     let f = front-le s at w in
@@ -168,37 +180,47 @@ last n s at j h g e =
     let z = low-some n (drop j s) (omega arith) in
     omega arith
 
--- so does the last word, behind eight bytes of ASCII
-pub last-word : (s : List ℕ) (at j : ℕ) → Behind s at → j + 8 ≡ length s → j ≤ at → past 8 s j ≡ asciiEnd s at
-last-word s at j b e g =
-    let w = b .within in
-    let i = b .eight in
-    let t = b .there in
-    let x = pass s (b .from) at (omega arith) (omega arith) in
-    last 8 s (b .from) j (omega arith) (omega arith) e ∙ x
+module _ {s : List ℕ} {at : ℕ} (b : Behind s at) where
+  -- so does the last word, behind eight bytes of ASCII
+  pub last-word : (j : ℕ) → j + 8 ≡ length s → j ≤ at → past 8 s j ≡ asciiEnd s at
+  last-word j e g =
+      let w = b .within in
+      let i = b .eight in
+      let t = b .there in
+      let x = pass s (b .from) at (omega arith) (omega arith) in
+      last 8 s (b .from) j (omega arith) (omega arith) e ∙ x
+
+  -- and a word from one byte before
+  pub from-before : low (drop at s) < 8 → past 8 s (at - 1) ≡ asciiEnd s at
+  from-before h =
+      let i = b .eight in
+      let t = b .there in
+      let x = pass s (b .from) at (omega arith) (omega arith) in
+      let y = pass s (b .from) (at - 1) (omega arith) (omega arith) in
+      upto s (at - 1) 8 (omega arith) ∙ sym y ∙ x
 
 -- ---- a short text
-module _ (s : List ℕ) where
-  pub short : length s < 64 → asciiEnd s 0 ≡ shortEnd s
-  unfolding shortEnd
-  short h = let e : 0 + low s ≡ low s = omega arith in e ∙ simp (lt-ltb (length s) 64 h)
+module _ (n : ℕ) (s : List ℕ) where
+  pub short : length s < n → asciiEnd s 0 ≡ front n s
+  unfolding front
+  short h = let e : 0 + low s ≡ low s = omega arith in e ∙ simp (lt-ltb (length s) n h)
 
-  pub long : 64 ≤ length s → 0 ≡ shortEnd s
-  unfolding shortEnd
-  long h = simp (le-ltb (length s) 64 h)
+  pub long : n ≤ length s → 0 ≡ front n s
+  unfolding front
+  long h = simp (le-ltb (length s) n h)
 
 -- its first k bytes and its last k bytes are all of it
-module _ (k : ℕ) (s : List ℕ) (h : k ≤ length s) (g : length s < 64) where
-  pub short-last : length s ≤ k + k → k ≤ low (drop 0 s) → past k s (length s - k) ≡ shortEnd s
-  short-last d f = last k s 0 (length s - k) (omega arith) (omega arith) (omega arith) ∙ short s g
+module _ (n k : ℕ) (s : List ℕ) (h : k ≤ length s) (g : length s < n) where
+  pub short-last : length s ≤ k + k → k ≤ low (drop 0 s) → past k s (length s - k) ≡ front n s
+  short-last d f = last k s 0 (length s - k) (omega arith) (omega arith) (omega arith) ∙ short n s g
 
-  pub short-first : low (drop 0 s) < k → past k s 0 ≡ shortEnd s
-  short-first f = part s 0 k f ∙ short s g
+  pub short-first : low (drop 0 s) < k → past k s 0 ≡ front n s
+  short-first f = part s 0 k f ∙ short n s g
 
-  pub short-all : length s ≤ k + k → k ≤ low (drop 0 s) → k ≤ low (drop (length s - k) s) → length s ≡ shortEnd s
+  pub short-all : length s ≤ k + k → k ≤ low (drop 0 s) → k ≤ low (drop (length s - k) s) → length s ≡ front n s
   short-all d f l =
       let j = length s - k in
       let e = pass s 0 j (omega arith) (omega arith) in
       let m = front-le s j (omega arith) in
       let a : length s ≡ asciiEnd s 0 = omega arith in
-      a ∙ short s g
+      a ∙ short n s g

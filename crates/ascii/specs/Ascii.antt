@@ -15,6 +15,6 @@ low (b ∷ bs) = cond (ltb b 128) (suc (low bs)) 0
 abbrev pub asciiEnd : List ℕ → ℕ → ℕ
 asciiEnd s at = at + low (drop at s)
 
--- the same from the front, of a text of fewer than 64 bytes; 0 of a longer one
-unfoldable pub shortEnd : List ℕ → ℕ
-shortEnd s = cond (ltb (length s) 64) (low s) 0
+-- the same from the front, of a text of fewer than n bytes; 0 of a longer one
+unfoldable pub front : ℕ → List ℕ → ℕ
+front n s = cond (ltb (length s) n) (low s) 0

@@ -1,8 +1,8 @@
 // How far a text is ASCII: bytes below 128, found in words of eight and blocks of words.
 ghost use mathlib.Core.Path.{_≡_};
 ghost use Prim.Native.Nat.{_+_, _≤_, _<_};
-ghost use lib.ListN.{length};
-ghost use Rattle.ascii.specs.Ascii.{asciiEnd, shortEnd};
+ghost use lib.ListN.{length, drop};
+ghost use Rattle.ascii.specs.Ascii.{low, asciiEnd, front};
 ghost use Rattle.ascii.specs.Words.{le, ascii, past, Behind};
 
 // The top bits of eight bytes.
@@ -115,35 +115,93 @@ fn bytes_end(s: &[u8], at: usize) -> usize
     i
 }
 
-// Past the ASCII, behind eight bytes of it, a word at a time. The last word of the text may begin among those eight.
-fn words_end(s: &[u8], at: usize) -> usize
+// The place of the first byte that is not ASCII, where one is among the next bytes. The last word is read from one byte before: the compiler would
+// keep a word that was tested for this, and a test takes two instructions where the word is not kept, and three where it is.
+fn among8(s: &[u8], at: usize) -> usize
+    requires { ⌜ (at + 8 ≤ length (now s)) × (low (drop at (now s)) < 8) ⌝ }
     requires { ⌜ Behind (now s) at ⌝ }
     ensures { λ r. ⌜ r ≡ asciiEnd (now (s .entry)) at ⌝ }
 {
-    let last = s.len() - 8;
-    let mut i = at;
-    while i < last {
-        if !ascii8(s, i) {
-            return past8(s, i);
-        }
-        i += 8;
-    }
-    past8(s, last)
+    past8(s, at - 1)
 }
 
-// The same, with a block of four words first.
-fn halves_end(s: &[u8], at: usize) -> usize
+fn among16(s: &[u8], at: usize) -> usize
+    requires { ⌜ (at + 16 ≤ length (now s)) × (low (drop at (now s)) < 16) ⌝ }
     requires { ⌜ Behind (now s) at ⌝ }
     ensures { λ r. ⌜ r ≡ asciiEnd (now (s .entry)) at ⌝ }
 {
-    if at + 32 <= s.len() && ascii32(s, at) {
-        return words_end(s, at + 32);
+    if ascii8(s, at) {
+        return among8(s, at + 8);
     }
-    words_end(s, at)
+    among8(s, at)
 }
 
-// The same in blocks of eight words. A block that is not all ASCII is read again, in halves and words: so the test of a word takes two
-// instructions and not three.
+fn among32(s: &[u8], at: usize) -> usize
+    requires { ⌜ (at + 32 ≤ length (now s)) × (low (drop at (now s)) < 32) ⌝ }
+    requires { ⌜ Behind (now s) at ⌝ }
+    ensures { λ r. ⌜ r ≡ asciiEnd (now (s .entry)) at ⌝ }
+{
+    if ascii16(s, at) {
+        return among16(s, at + 16);
+    }
+    among16(s, at)
+}
+
+fn among64(s: &[u8], at: usize) -> usize
+    requires { ⌜ (at + 64 ≤ length (now s)) × (low (drop at (now s)) < 64) ⌝ }
+    requires { ⌜ Behind (now s) at ⌝ }
+    ensures { λ r. ⌜ r ≡ asciiEnd (now (s .entry)) at ⌝ }
+{
+    if ascii32(s, at) {
+        return among32(s, at + 32);
+    }
+    among32(s, at)
+}
+
+// Past the ASCII, where fewer bytes than two blocks are left. The last word of the text may begin among bytes that are passed.
+fn rest8(s: &[u8], at: usize) -> usize
+    requires { ⌜ length (now s) < at + 16 ⌝ }
+    requires { ⌜ Behind (now s) at ⌝ }
+    ensures { λ r. ⌜ r ≡ asciiEnd (now (s .entry)) at ⌝ }
+{
+    if s.len() < at + 8 {
+        return past8(s, s.len() - 8);
+    }
+    if !ascii8(s, at) {
+        return among8(s, at);
+    }
+    past8(s, s.len() - 8)
+}
+
+fn rest16(s: &[u8], at: usize) -> usize
+    requires { ⌜ length (now s) < at + 32 ⌝ }
+    requires { ⌜ Behind (now s) at ⌝ }
+    ensures { λ r. ⌜ r ≡ asciiEnd (now (s .entry)) at ⌝ }
+{
+    if s.len() < at + 16 {
+        return rest8(s, at);
+    }
+    if !ascii16(s, at) {
+        return among16(s, at);
+    }
+    rest8(s, at + 16)
+}
+
+fn rest32(s: &[u8], at: usize) -> usize
+    requires { ⌜ length (now s) < at + 64 ⌝ }
+    requires { ⌜ Behind (now s) at ⌝ }
+    ensures { λ r. ⌜ r ≡ asciiEnd (now (s .entry)) at ⌝ }
+{
+    if s.len() < at + 32 {
+        return rest16(s, at);
+    }
+    if !ascii32(s, at) {
+        return among32(s, at);
+    }
+    rest16(s, at + 32)
+}
+
+// Past the ASCII, in blocks.
 fn blocks_end(s: &[u8], at: usize) -> usize
     requires { ⌜ Behind (now s) at ⌝ }
     ensures { λ r. ⌜ r ≡ asciiEnd (now (s .entry)) at ⌝ }
@@ -151,11 +209,11 @@ fn blocks_end(s: &[u8], at: usize) -> usize
     let mut i = at;
     while i + 64 <= s.len() {
         if !ascii64(s, i) {
-            return halves_end(s, i);
+            return among64(s, i);
         }
         i += 64;
     }
-    halves_end(s, i)
+    rest32(s, i)
 }
 
 // The place of the first byte from a place on that is not ASCII, or the end.
@@ -165,7 +223,10 @@ pub fn ascii_end(s: &[u8], at: usize) -> usize
     if s.len() <= at {
         return at;
     }
-    if s.len() - at < 8 {
+    if s.len() < 8 {
+        return bytes_end(s, at);
+    }
+    if s.len() - 8 < at {
         return bytes_end(s, at);
     }
     if !ascii8(s, at) {
@@ -174,19 +235,30 @@ pub fn ascii_end(s: &[u8], at: usize) -> usize
     blocks_end(s, at + 8)
 }
 
-// The same from the front of a text of fewer than 64 bytes, in few steps: its first bytes and its last bytes, which may overlap, are two blocks.
+// The same from the front of a text of fewer than 8 bytes, in few steps: its first bytes and its last bytes, which may overlap, are two blocks.
 // Of a longer text nothing is read, and the answer is 0.
-pub fn short_end(s: &[u8]) -> usize
-    ensures { λ r. ⌜ r ≡ shortEnd (now (s .entry)) ⌝ }
+pub fn front8(s: &[u8]) -> usize
+    ensures { λ r. ⌜ r ≡ front 8 (now (s .entry)) ⌝ }
+{
+    let n = s.len();
+    if 8 <= n {
+        return 0;
+    }
+    if 4 <= n && ascii4(s, 0) && ascii4(s, n - 4) {
+        return n;
+    }
+    bytes_end(s, 0)
+}
+
+// The same of a text of fewer than 64 bytes.
+pub fn front64(s: &[u8]) -> usize
+    ensures { λ r. ⌜ r ≡ front 64 (now (s .entry)) ⌝ }
 {
     let n = s.len();
     if 64 <= n {
         return 0;
     }
     if n < 8 {
-        if 4 <= n && ascii4(s, 0) && ascii4(s, n - 4) {
-            return n;
-        }
         return bytes_end(s, 0);
     }
     if n < 16 {

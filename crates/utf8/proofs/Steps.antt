@@ -12,7 +12,7 @@ use lib.Dec.{ltb, leb}
 use lib.ListN.{length, getD, drop, drop-of-length-le}
 use lib.Seq.{drop-cons, drop-drop}
 use borrow.Author.Tests.{ltb-true, ltb-false, lt-ltb, le-ltb, leb-true, leb-false, eq-eqb, ne-eqb, not-true, not-false}
-use Rattle.ascii.specs.Ascii.{low, asciiEnd, shortEnd}
+use Rattle.ascii.specs.Ascii.{low, asciiEnd, front}
 use Rattle.ascii.proofs.Low.{by, low-yes, low-no, front-le}
 use Rattle.utf8.specs.declared.Utf8Check.the-variants.{Bad}
 use Rattle.utf8.specs.declared.Step.{Step}
@@ -130,11 +130,11 @@ module _ (s : List ℕ) (at : ℕ) {r : ℕ} where
       let f : low (drop at s) ≡ suc (low (drop (suc at) s)) = ap low (drop-cons s at 0 h) ∙ low-yes (getD s at 0) (drop (suc at) s) b in
       omega arith
 
-pub short-runs : (s : List ℕ) {r : ℕ} → r ≡ shortEnd s → Runs s 0 r
-unfolding shortEnd
-short-runs s e =
-    by (ltb (length s) 64)
-    (λ t. let f = simp t at e in ascii-runs s 0 (omega arith) (omega arith)) (λ t. let f = simp t at e in subst (Runs s 0) (sym f) (stay s 0 (omega arith)))
+pub front-runs : (n : ℕ) (s : List ℕ) {r : ℕ} → r ≡ front n s → Runs s 0 r
+unfolding front
+front-runs n s e =
+    by (ltb (length s) n) (λ t. let f = simp t at e in ascii-runs s 0 (omega arith) (omega arith))
+    (λ t. let f = simp t at e in subst (Runs s 0) (sym f) (stay s 0 (omega arith)))
 
 -- ---- a byte in its range
 module _ (lo hi : ℕ) (s : List ℕ) (at : ℕ) where

@@ -3,10 +3,11 @@
 ghost use mathlib.Core.Path.{_≡_};
 ghost use Prim.Native.Nat.{_+_, _≤_, _<_};
 ghost use lib.ListN.{length, getD};
-ghost use Rattle.utf8.specs.Course.{least, most, checked, Takes, Fit, Leads};
+ghost use Rattle.utf8.specs.Course.{least, most, checked, Runs, Takes, Fit, Leads};
 ghost use Rattle.utf8.specs.Rfc3629.{Tells};
 use ascii::ascii_end;
-use ascii::short_end;
+use ascii::front8;
+use ascii::front64;
 
 // The answer: all of it is UTF-8, or the place where it breaks. That is the first byte that can neither begin nor continue a character there;
 // of a character that is cut at the end, the end.
@@ -130,16 +131,27 @@ fn char_at(s: &[u8], at: usize) -> Step
     past(s, at, fit_four(s, at), 4)
 }
 
+// Past the ASCII at the front of a short text.
+fn front(s: &[u8]) -> usize
+    requires { ⌜ 8 ≤ length (now s) ⌝ }
+    ensures { λ r. ⌜ Runs (now (s .entry)) 0 r ⌝ }
+{
+    if s[0] < 128 {
+        return front64(s);
+    }
+    0
+}
+
 // From the front to the last three bytes, or to the place of a break. Up to there four bytes follow every place, so that the compiler leaves out
 // the tests for the end.
 fn quick(s: &[u8]) -> Step
     ensures { λ r. ⌜ Leads 0 (now (s .entry)) 0 r ⌝ }
 {
-    if s.len() < 4 {
-        return Step::Next(0);
+    if s.len() < 8 {
+        return Step::Next(front8(s));
     }
     let hot = s.len() - 3;
-    let mut i = short_end(s);
+    let mut i = front(s);
     while i < hot {
         let b = s[i];
         if b < 128 {

@@ -1,14 +1,14 @@
 -- Each block that is passed is ASCII, and its last word stands behind the next.
 -- Assumes nothing.
-use Prim.Native.Nat.{_+_, _-_}
+use Prim.Native.Nat.{_-_}
 use mathlib.Core.Path.{_≡_, refl, sym, _∙_}
 use native.Mathlib.Omega.{arith}
 use lib.Dec.{lit≤}
 use lib.ListN.{length}
-use borrow.Author.Tests.{not-false}
+use borrow.Author.Tests.{not-true, not-false}
 use Rattle.ascii.specs.Ascii.{asciiEnd}
 use Rattle.ascii.specs.Words.{Behind}
-use Rattle.ascii.proofs.Low.{pass, all, behind}
+use Rattle.ascii.proofs.Low.{all, not-all, beyond, behind}
 use Rattle.ascii.proofs.blocks_end.Statement.{statement}
 use Rattle.ascii.proofs.blocks_end.Tie as tie
 
@@ -27,11 +27,11 @@ add-loop c = omega (arith, c .loop .inv .0 .within)
 ascii64-requires : tie.Need-ascii64-requires Inv-loop μ-loop
 ascii64-requires c κs = omega arith
 
-halves-end-requires : tie.Need-halves-end-requires Inv-loop μ-loop
-halves-end-requires c κs = c .before .before .before .loop .inv .0
+among64-requires : tie.Need-among64-requires Inv-loop μ-loop
+among64-requires c κs = ((omega arith, (not-all 64 _ _ (c .before .ascii64 .ensures) (not-true (c .before .ascii64 .result) (c .if1 .taken)))), c .before .before .before .loop .inv .0)
 
 returns : tie.Need-returns Inv-loop μ-loop
-returns c = c .halves-end .ensures ∙ sym (c .before .before .before .before .loop .inv .1)
+returns c = c .among64 .ensures ∙ sym (c .before .before .before .before .loop .inv .1)
 
 add-i : tie.Need-add-i Inv-loop μ-loop
 add-i c = omega arith
@@ -40,16 +40,13 @@ loop-less : tie.Need-loop-less Inv-loop μ-loop
 loop-less c = omega arith
 
 loop-again : tie.Need-loop-again Inv-loop μ-loop
-loop-again c =
-    let i = c .before .before .before .loop .i in
-    let a = all 64 _ _ (c .before .ascii64 .ensures) (not-false (c .before .ascii64 .result) (c .if1 .left)) in
-    (behind 64 _ i (lit≤ tt) (omega arith) a, c .before .before .before .loop .inv .1 ∙ pass _ i (i + 64) (omega arith) (omega arith))
+loop-again c = (behind 64 _ _ (lit≤ tt) (omega arith) (all 64 _ _ (c .before .ascii64 .ensures) (not-false (c .before .ascii64 .result) (c .if1 .left))), c .before .before .before .loop .inv .1 ∙ sym (beyond 64 _ _ (all 64 _ _ (c .before .ascii64 .ensures) (not-false (c .before .ascii64 .result) (c .if1 .left)))))
 
-halves-end-requires-2 : tie.Need-halves-end-requires-2 Inv-loop μ-loop
-halves-end-requires-2 c κs = c .before .loop .inv .0
+rest32-requires : tie.Need-rest32-requires Inv-loop μ-loop
+rest32-requires c κs = (omega arith, c .before .loop .inv .0)
 
 returns-2 : tie.Need-returns-2 Inv-loop μ-loop
-returns-2 c = c .halves-end2 .ensures ∙ sym (c .before .before .loop .inv .1)
+returns-2 c = c .rest32 .ensures ∙ sym (c .before .before .loop .inv .1)
 
 pub blocks-end-spec : {M : Type 1} → statement M
 blocks-end-spec =
@@ -60,10 +57,10 @@ blocks-end-spec =
     loop-holds
     add-loop
     ascii64-requires
-    halves-end-requires
+    among64-requires
     returns
     add-i
     loop-less
     loop-again
-    halves-end-requires-2
+    rest32-requires
     returns-2)

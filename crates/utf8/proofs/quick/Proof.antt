@@ -5,7 +5,7 @@ use mathlib.Core.Path.{_∙_}
 use native.Mathlib.Omega.{arith}
 use lib.ListN.{length}
 use Rattle.utf8.specs.Course.{Runs, on, off}
-use Rattle.utf8.proofs.Steps.{stay, then, one, ascii-runs, ascii-more, short-runs}
+use Rattle.utf8.proofs.Steps.{then, one, ascii-runs, ascii-more, front-runs}
 use borrow.Author.Needs.{needs}
 use Rattle.utf8.proofs.quick.Statement.{statement}
 use Rattle.utf8.proofs.quick.Tie as tie
@@ -16,17 +16,20 @@ Inv-loop s hot i₀ i = Runs s 0 i
 abbrev μ-loop : tie.MeasureT-loop
 μ-loop s hot i₀ i = length s - i
 
+front8-requires : tie.Need-front8-requires Inv-loop μ-loop
+front8-requires c κs = search needs
+
 returns : tie.Need-returns Inv-loop μ-loop
-returns c = on (stay _ 0 (omega arith)) (omega arith)
+returns c = on (front-runs 8 _ (c .front8 .ensures)) (omega arith)
 
 sub-hot : tie.Need-sub-hot Inv-loop μ-loop
 sub-hot c = omega arith
 
-short-end-requires : tie.Need-short-end-requires Inv-loop μ-loop
-short-end-requires c κs = search needs
+front-requires : tie.Need-front-requires Inv-loop μ-loop
+front-requires c κs = omega arith
 
 loop-holds : tie.Need-loop-holds Inv-loop μ-loop
-loop-holds c = short-runs _ (c .short-end .ensures)
+loop-holds c = c .front .ensures
 
 shared-slice-read-b : tie.Need-shared-slice-read-b Inv-loop μ-loop
 shared-slice-read-b c = omega arith
@@ -60,8 +63,8 @@ loop-again-2 c = then (c .before .before .before .before .before .before .loop .
 fit-two-requires : tie.Need-fit-two-requires Inv-loop μ-loop
 fit-two-requires c κs = (omega arith, omega arith)
 
-add-t19 : tie.Need-add-t19 Inv-loop μ-loop
-add-t19 c = omega arith
+add-t20 : tie.Need-add-t20 Inv-loop μ-loop
+add-t20 c = omega arith
 
 returns-2 : tie.Need-returns-2 Inv-loop μ-loop
 returns-2 c = off (c .before .before .before .before .before .before .loop .inv .same ∙ c .before .fit-two .ensures .part (c .if5 .taken))
@@ -78,8 +81,8 @@ loop-again-3 c = then (c .before .before .before .before .before .before .loop .
 fit-three-requires : tie.Need-fit-three-requires Inv-loop μ-loop
 fit-three-requires c κs = (omega arith, omega arith)
 
-add-t22 : tie.Need-add-t22 Inv-loop μ-loop
-add-t22 c = omega arith
+add-t23 : tie.Need-add-t23 Inv-loop μ-loop
+add-t23 c = omega arith
 
 returns-3 : tie.Need-returns-3 Inv-loop μ-loop
 returns-3 c = off (c .before .before .before .before .before .before .before .loop .inv .same ∙ c .before .fit-three .ensures .part (c .if7 .taken))
@@ -96,8 +99,8 @@ loop-again-4 c = then (c .before .before .before .before .before .before .before
 fit-four-requires : tie.Need-fit-four-requires Inv-loop μ-loop
 fit-four-requires c κs = (omega arith, omega arith)
 
-add-t24 : tie.Need-add-t24 Inv-loop μ-loop
-add-t24 c = omega arith
+add-t25 : tie.Need-add-t25 Inv-loop μ-loop
+add-t25 c = omega arith
 
 returns-4 : tie.Need-returns-4 Inv-loop μ-loop
 returns-4 c = off (c .before .before .before .before .before .before .before .loop .inv .same ∙ c .before .fit-four .ensures .part (c .if8 .taken))
@@ -120,9 +123,10 @@ quick-spec =
     (tie.spec
     Inv-loop
     μ-loop
+    front8-requires
     returns
     sub-hot
-    short-end-requires
+    front-requires
     loop-holds
     shared-slice-read-b
     add-if3
@@ -134,19 +138,19 @@ quick-spec =
     loop-less-2
     loop-again-2
     fit-two-requires
-    add-t19
+    add-t20
     returns-2
     add-i-2
     loop-less-3
     loop-again-3
     fit-three-requires
-    add-t22
+    add-t23
     returns-3
     add-i-3
     loop-less-4
     loop-again-4
     fit-four-requires
-    add-t24
+    add-t25
     returns-4
     add-i-4
     loop-less-5
