@@ -3,6 +3,9 @@ use libc::STDERR_FILENO;
 use libc::STDIN_FILENO;
 use libc::STDOUT_FILENO;
 use walk::Walked;
+ghost use Prim.Native.Nat.{_≤_};
+ghost use lib.ListN.{length};
+ghost use Rattle.io.specs.Counts.{Counts};
 
 // The bytes that it takes.
 const TAKEN: usize = 65536;
@@ -92,36 +95,87 @@ fn list(doc: &[u8]) {
     }
 }
 
+// One read to the place `done` and past it: how many bytes came, or a negative number.
+fn read_some(fd: i32, buf: &mut [u8], done: usize) -> isize
+    requires { ⌜ done ≤ length (now buf) ⌝ }
+{
+    libc::read(fd, &mut buf[done..])
+}
+
+// What came until the input ended or the buffer was full, or a read that failed.
+enum Input {
+    Bytes(usize),
+    Failed,
+}
+
+fn read_all(fd: i32, buf: &mut [u8]) -> Input {
+    let mut done = 0;
+    while done < buf.len() {
+        let got = read_some(fd, buf, done);
+        if got < 0 {
+            return Input::Failed;
+        }
+        let n = io::count(got, buf);
+        if n == 0 {
+            return Input::Bytes(done);
+        }
+        if buf.len() - done <= n {
+            return Input::Bytes(buf.len());
+        }
+        done += n;
+    }
+    Input::Bytes(done)
+}
+
 // One more read, with a buffer of its own: 0 at the end of the input, negative where it fails.
 fn read_one(fd: i32) -> isize {
     let mut one = [0u8; 1];
     libc::read(fd, &mut one)
 }
 
-// Bytes that follow although a read stopped before the buffer was full: that read failed.
-fn complain_of(name: &[u8]) {
-    complain(name);
-    complain(b": a read failed before the end\n");
+fn bounded(n: usize, buf: &[u8]) -> usize
+    ensures { λ r. ⌜ Counts r (now (buf .entry)) ⌝ }
+{
+    if n <= buf.len() {
+        return n;
+    }
+    0
 }
 
-// Lists what can be read; `name` is what the input is called where it cannot.
-fn list_input(fd: i32, name: &[u8]) {
-    let mut bytes = io::large_buffer();
-    let n = io::read_full(fd, &mut bytes);
+fn say_too_long() {
+    if !say(b"too long\n") {
+        os::fail(b"standard output");
+    }
+}
+
+// Lists what was read, unless a byte follows it.
+fn list_whole(fd: i32, name: &[u8], doc: &[u8]) {
+    if doc.len() < TAKEN {
+        list(doc);
+        return;
+    }
     let after = read_one(fd);
     if after < 0 {
         os::fail(name);
         return;
     }
-    if after == 0 {
-        list(&bytes[..n]);
+    if 0 < after {
+        say_too_long();
         return;
     }
-    if n == TAKEN {
-        say(b"too long\n");
-        return;
+    list(doc);
+}
+
+// Lists what can be read; `name` is what the input is called where it cannot.
+fn list_input(fd: i32, name: &[u8]) {
+    let mut bytes = io::large_buffer();
+    match read_all(fd, &mut bytes) {
+        Input::Bytes(n) => {
+            let m = bounded(n, &bytes);
+            list_whole(fd, name, &bytes[..m]);
+        }
+        Input::Failed => os::fail(name),
     }
-    complain_of(name);
 }
 
 fn list_file() {
