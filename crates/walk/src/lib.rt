@@ -141,6 +141,18 @@ fn list_element(
     list_entry(doc, out, n, v, i, depth, Span { start: 0, len: 0 }, r)
 }
 
+// Lists entry i of a container. Both walkers call it, so that what it needs is not on their stack, level for level.
+fn list_child(doc: &[u8], out: &mut [u32], n: usize, v: View, i: u32, depth: u32, r: Read) -> Walked
+    requires { ⌜ r ≡ entryRead (now doc) v i ⌝ }
+    ensures { λ w. ⌜ lay (node (judged (now (doc .entry)) depth i (entryStand (now (doc .entry)) v i)) (placeAt v i) childless) (now (out .entry)) n ≡ laid w (now (out .exit)) ⌝ }
+{
+    let k = v.kind;
+    if k.object {
+        return list_member(doc, out, n, v, i, depth, r);
+    }
+    list_element(doc, out, n, v, i, depth, r)
+}
+
 // Lists the elements of an array.
 fn walk_array(doc: &[u8], out: &mut [u32], from: usize, view: View, levels: u32) -> Walked
     requires { ⌜ (levels ≤ 100) × (view .kind .object ≡ false) ⌝ }
@@ -158,7 +170,7 @@ fn walk_array(doc: &[u8], out: &mut [u32], from: usize, view: View, levels: u32)
             };
         }
         let r = entry::read_entry(doc, view, i);
-        let own = list_element(doc, out, n, view, i, 101 - levels, r);
+        let own = list_child(doc, out, n, view, i, 101 - levels, r);
         let Walked::Done { count: m } = own else {
             return own;
         };
@@ -193,7 +205,7 @@ fn walk_object(doc: &[u8], out: &mut [u32], from: usize, view: View, levels: u32
             };
         }
         let r = entry::read_entry(doc, view, i);
-        let own = list_member(doc, out, n, view, i, 101 - levels, r);
+        let own = list_child(doc, out, n, view, i, 101 - levels, r);
         let Walked::Done { count: m } = own else {
             return own;
         };

@@ -12,8 +12,7 @@ use borrow.Fn.PlainCycle.{Measures, is, falls, and}
 use Rattle.entry.proofs.read_entry.Reads as read-entry-reads
 use Rattle.entry.proofs.value_place.Reads as value-place-reads
 use Rattle.walk.proofs.leads_to.Reads as leads-to-reads
-use Rattle.walk.proofs.list_element.Reads as list-element-reads
-use Rattle.walk.proofs.list_member.Reads as list-member-reads
+use Rattle.walk.proofs.list_child.Reads as list-child-reads
 use Rattle.walk.proofs.walk_array.Reads as walk-array
 use Rattle.walk.proofs.walk_array.Kinds as walk-array-kinds
 use Rattle.walk.proofs.walk_object.Reads as walk-object
@@ -50,8 +49,8 @@ array-claims t = (
   value-place-reads.Learnt,
   read-entry-reads.Asked,
   read-entry-reads.Learnt,
-  list-element-reads.Asked,
-  list-element-reads.Learnt,
+  list-child-reads.Asked,
+  list-child-reads.Learnt,
   leads-to-reads.Asked,
   leads-to-reads.Learnt,
   walk-array-below t,
@@ -76,8 +75,8 @@ array-came t c =
     let leads = c .before .leads-to .ensures in
     came (e .before .before .before .loop .inv) (e .before .before .loop-test .taken) (e .before .if1 .left)
     (e .before .before .before .before .before .before .pre .1 .0) (e .read-entry .ensures)
-    (c .before .before .before .before .before .before .before .list-element .ensures) (c .before .before .before .own .given .1)
-    (c .before .before .before .before .before .before .before .list-element .kept .1 .0)
+    (c .before .before .before .before .before .before .before .list-child .ensures) (c .before .before .before .own .given .1)
+    (c .before .before .before .before .before .before .before .list-child .kept .1 .0)
     (⊎-elim
     (λ w. (
       container-below _ _ _ _ _ (array-so (e .read-entry .result) leads (w .1 .given .1) .0) (w .4 .ensures) ∙ same (w .8) (w .7),
@@ -98,8 +97,8 @@ object-claims t = (
   value-place-reads.Learnt,
   read-entry-reads.Asked,
   read-entry-reads.Learnt,
-  list-member-reads.Asked,
-  list-member-reads.Learnt,
+  list-child-reads.Asked,
+  list-child-reads.Learnt,
   leads-to-reads.Asked,
   leads-to-reads.Learnt,
   walk-array-below t,
@@ -125,8 +124,8 @@ object-came t c =
     let leads = c .before .leads-to .ensures in
     came (e .before .before .before .loop .inv) (e .before .before .loop-test .taken) (e .before .if1 .left)
     (e .before .before .before .before .before .before .pre .1 .0) (e .read-entry .ensures)
-    (c .before .before .before .before .before .before .before .list-member .ensures) (c .before .before .before .own .given .1)
-    (c .before .before .before .before .before .before .before .list-member .kept .1 .0)
+    (c .before .before .before .before .before .before .before .list-child .ensures) (c .before .before .before .own .given .1)
+    (c .before .before .before .before .before .before .before .list-child .kept .1 .0)
     (⊎-elim
     (λ w. (
       container-below _ _ _ _ _ (array-so (e .read-entry .result) leads (w .1 .given .1) .0) (w .4 .ensures) ∙ same (w .8) (w .7),
@@ -150,17 +149,17 @@ pub +walk-array+walk-object-spec : {M : Type 1} → statement M
     (λ c. deep (c .before .before .before .loop .inv) (c .before .before .loop-test .taken) (c .before .if1 .taken) (c .value-place .ensures .0))
     (λ c κs. search needs)
     (λ c. search needs)
-    (λ c κs. (c .before .read-entry .ensures, c .before .before .before .before .before .before .before .pre .1 .1))
+    (λ c κs. c .before .read-entry .ensures)
     (λ c. search needs)
     (λ c. search needs)
     (λ c.
     let e = c .before .before .before .before .before .before in
-    c .before .before .before .before .list-element .kept .1 .0 ∙ e .before .before .before .loop .inv .same)
+    c .before .before .before .before .list-child .kept .1 .0 ∙ e .before .before .before .loop .inv .same)
     (λ c.
     let e = c .before .before .before .before .before .before in
     stopped (e .before .before .before .loop .inv) (e .before .before .loop-test .taken) (e .before .if1 .left)
     (e .before .before .before .before .before .before .pre .1 .0) (e .read-entry .ensures)
-    (c .before .before .before .before .list-element .ensures) (c .enum-told .given .1))
+    (c .before .before .before .before .list-child .ensures) (c .enum-told .given .1))
     (λ c κs. search needs)
     (λ c. search needs)
     (λ c. search needs)
@@ -209,16 +208,16 @@ pub +walk-array+walk-object-spec : {M : Type 1} → statement M
     (λ c. deep (c .before .before .before .loop .inv) (c .before .before .loop-test .taken) (c .before .if1 .taken) (c .value-place .ensures .0))
     (λ c κs. search needs)
     (λ c. search needs)
-    (λ c κs. (c .before .read-entry .ensures, c .before .before .before .before .before .before .before .pre .1 .1))
+    (λ c κs. c .before .read-entry .ensures)
     (λ c. search needs)
     (λ c. search needs)
     (λ c.
     let e = c .before .before .before .before .before .before in
-    c .before .before .before .before .list-member .kept .1 .0 ∙ e .before .before .before .loop .inv .same)
+    c .before .before .before .before .list-child .kept .1 .0 ∙ e .before .before .before .loop .inv .same)
     (λ c.
     let e = c .before .before .before .before .before .before in
     stopped (e .before .before .before .loop .inv) (e .before .before .loop-test .taken) (e .before .if1 .left)
-    (e .before .before .before .before .before .before .pre .1 .0) (e .read-entry .ensures) (c .before .before .before .before .list-member .ensures)
+    (e .before .before .before .before .before .before .pre .1 .0) (e .read-entry .ensures) (c .before .before .before .before .list-child .ensures)
     (c .enum-told .given .1))
     (λ c κs. search needs)
     (λ c. search needs)
