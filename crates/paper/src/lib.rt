@@ -1,1 +1,1 @@
-// Document 01's examples over the definitions of the crates decimal and jsonb: see specs/ and proofs/. There is no code here.
+// Document 01's examples over the definitions of the crates decimal, jsonb and walk: see specs/ and proofs/. There is no code here.
