@@ -17,7 +17,7 @@ use Rattle.utf8.specs.Course.{checked}
 use Rattle.utf8.specs.declared.Utf8Check.{Utf8Check}
 use Rattle.value.specs.declared.Span.{Span}
 use Rattle.value.specs.declared.Value.{Value}
-use Rattle.jsonb.specs.Said.{says}
+use Rattle.gate.specs.Said.{says}
 use Rattle.events.specs.declared.Event.{Event}
 use Rattle.events.specs.declared.Spot.{Spot}
 use Rattle.events.specs.declared.Walked.the-variants.{Done, Stopped}

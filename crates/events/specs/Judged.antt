@@ -4,7 +4,7 @@
 use Prim.Native.Nat.{ℕ}
 use mathlib.Core.Bool.{cond}
 use mathlib.Core.List.{List}
-use Rattle.jsonb.specs.Said.{Said, says, nothing, refuses}
+use Rattle.gate.specs.Said.{Said, says, nothing, refuses}
 use Rattle.value.specs.declared.Span.{Span}
 use Rattle.value.specs.declared.Value.{Value}
 use Rattle.events.specs.declared.Event.{Event}

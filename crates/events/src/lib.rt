@@ -10,7 +10,7 @@ ghost use Prim.Native.Nat.{_+_, _*_, _≤_};
 ghost use lib.ListN.{length};
 ghost use Rattle.events.specs.Events.{wide as eventWide, kindCode, codeOf, bytesOf, bytesFrom, scalarPart, partOf, scalarExtra, extraOf, eventOf};
 ghost use Rattle.events.specs.Text.{isValid, isText, scalarText, isTextual};
-ghost use Rattle.jsonb.specs.Said.{says};
+ghost use Rattle.gate.specs.Said.{says};
 ghost use Rattle.events.specs.Judged.{valueJudged};
 ghost use Rattle.events.specs.Listing.{node, childless};
 ghost use Rattle.events.specs.Lay.{room, put, lay, laid};

@@ -1,4 +1,1 @@
-pub mod Said
 pub mod Views
-pub mod Steps
-pub mod Course

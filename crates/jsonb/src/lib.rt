@@ -1,12 +1,12 @@
 // MySQL's binary JSON: the root, containers by their views, elements, keys and members.
-mod gate;
 mod root;
-mod steps;
 mod views;
 
 pub use codes::ColumnType;
 pub use codes::JsonbType;
 pub use content::Read;
+pub use gate::Found;
+pub use gate::Key;
 pub use layout::Kind;
 pub use root::deserialize;
 pub use steps::Element;
@@ -26,20 +26,6 @@ pub use value::View;
 pub use views::elem_at;
 pub use views::element_count;
 pub use views::key_at;
-
-// An element: a value, nothing at or past the count, or a refusal.
-pub enum Found {
-    Value(Value),
-    Nothing,
-    Refused(u8),
-}
-
-// A key's bytes, nothing, or a refusal.
-pub enum Key {
-    Key(Span),
-    Nothing,
-    Refused(u8),
-}
 
 // A count, or a refusal.
 pub enum Count {

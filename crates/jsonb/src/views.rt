@@ -1,25 +1,16 @@
 // A container by its view: elements, keys and the count.
 use super::Count;
-use super::Found;
-use super::Key;
-use super::gate::Gate;
-use super::gate::gate_at;
-use super::gate::is_whole;
-use content::Part;
-use content::Read;
+use gate::Found;
+use gate::Gate;
+use gate::Key;
+use gate::found_of;
+use gate::gate_at;
+use gate::is_whole;
+use gate::key_of;
 use value::View;
 ghost use mathlib.Core.Path.{_≡_};
-ghost use Rattle.jsonb.specs.Said.{readSaid, partSaid, foundSaid, keySaid, countSaid};
-ghost use Rattle.jsonb.specs.Views.{elemAt, keyAt, countAt};
-
-pub(crate) fn found_of(r: Read) -> Found
-    ensures { λ f. ⌜ foundSaid f ≡ readSaid r ⌝ }
-{
-    match r {
-        Read::Value(x) => Found::Value(x),
-        Read::Refused(n) => Found::Refused(n),
-    }
-}
+ghost use Rattle.gate.specs.Said.{foundSaid, keySaid};
+ghost use Rattle.jsonb.specs.Views.{elemAt, keyAt, countSaid, countAt};
 
 // The element, or the member's value, at a position.
 pub fn elem_at(doc: &[u8], v: View, pos: u32) -> Found
@@ -29,15 +20,6 @@ pub fn elem_at(doc: &[u8], v: View, pos: u32) -> Found
         Gate::Open => found_of(entry::read_entry(doc, v, pos)),
         Gate::Nothing => Found::Nothing,
         Gate::Refused(n) => Found::Refused(n),
-    }
-}
-
-pub(crate) fn key_of(p: Part) -> Key
-    ensures { λ k. ⌜ keySaid k ≡ partSaid p ⌝ }
-{
-    match p {
-        Part::Bytes(s) => Key::Key(s),
-        Part::Refused(n) => Key::Refused(n),
     }
 }
 

@@ -8,22 +8,23 @@ use lib.ListN.{length, take}
 use Rattle.refusal.proofs.Answers.{one-answer}
 use Rattle.value.specs.declared.Span.{Span}
 use Rattle.value.specs.declared.Value.{Value}
-use Rattle.jsonb.specs.Said.{Said, says, nothing, refuses, foundSaid, keySaid, countSaid}
-use Rattle.jsonb.specs.Steps.{after, memberSaid, elementItem, keyItem, memberItem}
-use Rattle.jsonb.specs.declared.Found.{Found}
-use Rattle.jsonb.specs.declared.Found.the-variants as found
-use Rattle.jsonb.specs.declared.Key.{Key}
-use Rattle.jsonb.specs.declared.Key.the-variants as key
+use Rattle.gate.specs.Said.{Said, says, nothing, refuses, foundSaid, keySaid}
+use Rattle.jsonb.specs.Views.{countSaid}
+use Rattle.steps.specs.Steps.{after, memberSaid, elementItem, keyItem, memberItem}
+use Rattle.gate.specs.declared.Found.{Found}
+use Rattle.gate.specs.declared.Found.the-variants as found
+use Rattle.gate.specs.declared.Key.{Key}
+use Rattle.gate.specs.declared.Key.the-variants as key
 use Rattle.jsonb.specs.declared.Count.{Count}
 use Rattle.jsonb.specs.declared.Count.the-variants as count
-use Rattle.jsonb.specs.declared.steps.Member.{Member}
-use Rattle.jsonb.specs.declared.steps.Member.the-variants as member
-use Rattle.jsonb.specs.declared.steps.Elements.{Elements}
-use Rattle.jsonb.specs.declared.steps.Element.{Element}
-use Rattle.jsonb.specs.declared.steps.Keys.{Keys}
-use Rattle.jsonb.specs.declared.steps.KeyStep.{KeyStep}
-use Rattle.jsonb.specs.declared.steps.Members.{Members}
-use Rattle.jsonb.specs.declared.steps.MemberStep.{MemberStep}
+use Rattle.steps.specs.declared.Member.{Member}
+use Rattle.steps.specs.declared.Member.the-variants as member
+use Rattle.steps.specs.declared.Elements.{Elements}
+use Rattle.steps.specs.declared.Element.{Element}
+use Rattle.steps.specs.declared.Keys.{Keys}
+use Rattle.steps.specs.declared.KeyStep.{KeyStep}
+use Rattle.steps.specs.declared.Members.{Members}
+use Rattle.steps.specs.declared.MemberStep.{MemberStep}
 use Rattle.entry.specs.Entries.{endOf}
 use Rattle.jsonb_laws.specs.Allowed.{ElementAllowed, KeyAllowed, MemberAllowed}
 use Rattle.jsonb_laws.proofs.SameFront.{element-item-same, key-item-same, member-item-same, open-same}

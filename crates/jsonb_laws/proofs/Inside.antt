@@ -42,12 +42,13 @@ use Rattle.content.specs.declared.Read.the-variants as read
 use Rattle.content.specs.declared.Header.the-variants as header
 use Rattle.content.specs.declared.Part.{Part}
 use Rattle.content.specs.declared.Part.the-variants as part
-use Rattle.jsonb.specs.Said.{Said, says, nothing, refuses, readSaid, partSaid}
+use Rattle.gate.specs.Said.{Said, says, nothing, refuses, readSaid, partSaid}
 use Rattle.entry.specs.Entries.{endOf, isInlined, placeAt, pointedAt, typedEntry, entryOf, entryAt}
-use Rattle.jsonb.specs.Views.{typedAt, rootRead, matches, gated, elemAt}
+use Rattle.jsonb.specs.Views.{typedAt, rootRead, elemAt}
+use Rattle.gate.specs.Before.{matches, gated}
 use Rattle.entry.specs.Entries.{keyOffset, keyLength, keyOf, keyPlaceAt, keyEntryAt}
 use Rattle.jsonb.specs.Views.{keyAt}
-use Rattle.jsonb.proofs.Gates.{no-truth}
+use Rattle.gate.proofs.Gates.{no-truth}
 use Rattle.jsonb_laws.specs.Within.{Spans, ScalarInside, Inside}
 
 -- ---- what is read, where it is not refused

@@ -11,10 +11,11 @@ use borrow.Author.Tests.{le-ltb, le-leb, lt-leb, leb-true, leb-false}
 use Rattle.value.specs.declared.View.{View}
 use Rattle.value.specs.declared.Span.{Span}
 use Rattle.value.specs.declared.Value.{Value}
-use Rattle.jsonb.specs.Said.{Said, nothing, refuses, readSaid, partSaid}
+use Rattle.gate.specs.Said.{Said, nothing, refuses, readSaid, partSaid}
 use Rattle.entry.specs.Entries.{entryAt, keyEntryAt}
-use Rattle.jsonb.specs.Views.{matches, gated, elemAt, keyAt}
-use Rattle.jsonb.specs.Steps.{isOpen, after, memberOf, elementItem, keyItem, memberItem}
+use Rattle.gate.specs.Before.{matches, gated}
+use Rattle.jsonb.specs.Views.{elemAt, keyAt}
+use Rattle.steps.specs.Steps.{isOpen, after, memberOf, elementItem, keyItem, memberItem}
 use Rattle.jsonb_laws.specs.Walked.{stepsTo}
 
 -- ---- an item is the answer by position

@@ -45,7 +45,7 @@ use Rattle.content.specs.declared.Header.the-variants.{Whole}
 use Rattle.content.specs.declared.Header.the-variants as header
 use Rattle.content.specs.declared.Part.{Part}
 use Rattle.content.specs.declared.Part.the-variants as part
-use Rattle.jsonb.proofs.Gates.{head-by}
+use Rattle.gate.proofs.Gates.{head-by}
 use Rattle.jsonb_laws.specs.Ends.{numberBytes, endAt}
 
 pub byte-same : (a b : List ℕ) (e : ℕ) → take e a ≡ take e b → (i : ℕ) → i < e → getD a i 0 ≡ getD b i 0

@@ -37,14 +37,14 @@ use Rattle.content.specs.declared.Header.the-variants as header
 use Rattle.content.proofs.Placed.{placed-within}
 use Rattle.value.specs.declared.Span.{Span}
 use Rattle.value.specs.declared.Value.{Value}
-use Rattle.jsonb.specs.Said.{Said, nothing, refuses, readSaid, partSaid}
+use Rattle.gate.specs.Said.{Said, nothing, refuses, readSaid, partSaid}
 use Rattle.entry.specs.Entries.{endOf, placeAt, pointedAt, typedEntry, entryOf, entryAt, keyOf, keyEntryAt}
-use Rattle.jsonb.specs.Views.{names, matches, gated, elemAt, keyAt, countAt}
-use Rattle.jsonb.specs.Steps.{isOpen, after, memberOf, elementItem, keyItem, memberItem}
-use Rattle.jsonb.specs.Course.{Whole, gateOf}
-use Rattle.jsonb.specs.declared.gate.Gate.the-variants.{Open}
+use Rattle.gate.specs.Before.{names, matches, gated, Whole, gateOf}
+use Rattle.jsonb.specs.Views.{elemAt, keyAt, countAt}
+use Rattle.steps.specs.Steps.{isOpen, after, memberOf, elementItem, keyItem, memberItem}
+use Rattle.gate.specs.declared.Gate.the-variants.{Open}
 use Rattle.layout.proofs.Inside.{value-inside}
-use Rattle.jsonb.proofs.Gates.{no-truth, read-by, matched, open-whole}
+use Rattle.gate.proofs.Gates.{no-truth, read-by, matched, open-whole}
 use Rattle.jsonb_laws.specs.Walked.{stepsTo}
 use Rattle.jsonb_laws.proofs.OwnEnd.{byte-same, take-less, reaches, header-ends, header-again}
 

@@ -4,14 +4,14 @@ use mathlib.Core.Path.{_≡_}
 use mathlib.Core.Bool.{not}
 use mathlib.Core.List.{List}
 use Prim.Native.Nat.{ℕ}
-use Rattle.jsonb.specs.Said.{foundSaid, keySaid}
-use Rattle.jsonb.specs.Steps.{isOpen, after, memberSaid, elementItem, keyItem, memberItem}
-use Rattle.jsonb.specs.declared.steps.Elements.{Elements}
-use Rattle.jsonb.specs.declared.steps.Element.{Element}
-use Rattle.jsonb.specs.declared.steps.Keys.{Keys}
-use Rattle.jsonb.specs.declared.steps.KeyStep.{KeyStep}
-use Rattle.jsonb.specs.declared.steps.Members.{Members}
-use Rattle.jsonb.specs.declared.steps.MemberStep.{MemberStep}
+use Rattle.gate.specs.Said.{foundSaid, keySaid}
+use Rattle.steps.specs.Steps.{isOpen, after, memberSaid, elementItem, keyItem, memberItem}
+use Rattle.steps.specs.declared.Elements.{Elements}
+use Rattle.steps.specs.declared.Element.{Element}
+use Rattle.steps.specs.declared.Keys.{Keys}
+use Rattle.steps.specs.declared.KeyStep.{KeyStep}
+use Rattle.steps.specs.declared.Members.{Members}
+use Rattle.steps.specs.declared.MemberStep.{MemberStep}
 
 -- Elements::next
 pub record ElementAllowed (d : List ℕ) (self : Elements) (r : Element) : Type 0 where

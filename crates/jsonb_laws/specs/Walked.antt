@@ -4,7 +4,7 @@ use Prim.Native.Nat.{ℕ, zero, suc}
 use mathlib.Core.Bool.{Bool}
 use mathlib.Core.List.{List}
 use Rattle.value.specs.declared.View.{View}
-use Rattle.jsonb.specs.Steps.{isOpen, after}
+use Rattle.steps.specs.Steps.{isOpen, after}
 
 unfoldable pub stepsTo : List ℕ → View → Bool → ℕ → ℕ
 stepsTo d v asked zero = 0

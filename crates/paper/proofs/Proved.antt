@@ -18,8 +18,9 @@ use Rattle.codes.specs.Literals.{typeOf as literalType}
 use Rattle.layout.specs.Layout.{offsetSize, keyEntry, keyPlace, valuePlace, headerSize, offsetAt}
 use Rattle.content.specs.Reading.{headerAt, literalAt, numberAt, partAt, stringAt, contentAt, placeFault, readAt, headerRead}
 use Rattle.entry.specs.Entries.{pointedAt, typedEntry, entryAt, keyOf, keyEntryAt, startOf, valueStart}
-use Rattle.jsonb.specs.Said.{Said}
-use Rattle.jsonb.specs.Views.{rootRead, matches, gated, elemAt, keyAt}
+use Rattle.gate.specs.Said.{Said}
+use Rattle.jsonb.specs.Views.{rootRead, elemAt, keyAt}
+use Rattle.gate.specs.Before.{matches, gated}
 use Rattle.utf8.specs.Course.{lead, run}
 use Rattle.events.specs.Events.{kindCode, bytesFrom}
 use Rattle.events.specs.Text.{isText}

@@ -20,13 +20,14 @@ use Rattle.value.specs.declared.Number.the-variants as number
 use Rattle.content.specs.Reading.{kind, span, view, headerAt, literalAt, numberAt, contentAt, placeFault, readAt, headerRead}
 use Rattle.content.specs.declared.Read.{Read}
 use Rattle.entry.specs.Entries.{typedEntry, entryAt, keyOf, keyEntryAt}
-use Rattle.jsonb.specs.Said.{says, readSaid, foundSaid, keySaid}
-use Rattle.jsonb.specs.Views.{rootRead, matches, gated, elemAt, keyAt}
-use Rattle.jsonb.specs.Steps.{elementItem}
-use Rattle.jsonb.specs.declared.Found.{Found}
-use Rattle.jsonb.specs.declared.Key.{Key}
-use Rattle.jsonb.specs.declared.steps.Element.{Element}
-use Rattle.jsonb.specs.declared.steps.Elements.{Elements}
+use Rattle.gate.specs.Said.{says, readSaid, foundSaid, keySaid}
+use Rattle.jsonb.specs.Views.{rootRead, elemAt, keyAt}
+use Rattle.gate.specs.Before.{matches, gated}
+use Rattle.steps.specs.Steps.{elementItem}
+use Rattle.gate.specs.declared.Found.{Found}
+use Rattle.gate.specs.declared.Key.{Key}
+use Rattle.steps.specs.declared.Element.{Element}
+use Rattle.steps.specs.declared.Elements.{Elements}
 use Rattle.paper.specs.Paper.{trueAndMinusTwo, zoe}
 use Rattle.paper.specs.Readers.{Silent, OnlyNull}
 

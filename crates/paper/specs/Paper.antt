@@ -22,7 +22,7 @@ use Rattle.value.specs.declared.Scalar.the-variants as scalar
 use Rattle.value.specs.declared.Value.{Value}
 use Rattle.value.specs.declared.Value.the-variants as value
 use Rattle.content.specs.Reading.{kind, span, view}
-use Rattle.jsonb.specs.Said.{Said, says, nothing, refuses, readSaid}
+use Rattle.gate.specs.Said.{Said, says, nothing, refuses, readSaid}
 use Rattle.jsonb.specs.Views.{rootRead, elemAt, keyAt}
 use Rattle.events.specs.declared.Walked.{Walked}
 use Rattle.events.specs.declared.Walked.the-variants.{Done, Stopped}

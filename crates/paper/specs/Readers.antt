@@ -3,7 +3,7 @@
 use Rattle.value.specs.declared.Value.{Value}
 use Rattle.value.specs.declared.Value.the-variants as value
 use Rattle.value.specs.declared.Scalar.the-variants as scalar
-use Rattle.jsonb.specs.Said.{Said, says, nothing, refuses}
+use Rattle.gate.specs.Said.{Said, says, nothing, refuses}
 
 -- a refusal, or nothing: no answer that says a thing
 abbrev pub Silent : {A : Type 0} → Said A → Type 0

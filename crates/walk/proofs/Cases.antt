@@ -17,7 +17,7 @@ use Rattle.content.specs.declared.Read.the-variants as read
 use Rattle.content.specs.declared.Part.{Part}
 use Rattle.content.specs.declared.Part.the-variants as part
 use Rattle.entry.specs.Entries.{placeAt, keyPlaceAt, entryRead, keyRead, valueStart}
-use Rattle.jsonb.specs.Said.{Said, says, readSaid, partSaid}
+use Rattle.gate.specs.Said.{Said, says, readSaid, partSaid}
 use Rattle.jsonb.specs.Views.{rootRead}
 use Rattle.events.specs.declared.Walked.the-variants.{Stopped}
 use Rattle.events.specs.Events.{noKey}

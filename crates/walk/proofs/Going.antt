@@ -15,7 +15,7 @@ use Rattle.value.specs.declared.View.{View}
 use Rattle.value.specs.declared.Value.the-variants.{Container}
 use Rattle.content.specs.declared.Read.{Read}
 use Rattle.entry.specs.Entries.{placeAt, entryRead}
-use Rattle.jsonb.specs.Said.{readSaid}
+use Rattle.gate.specs.Said.{readSaid}
 use Rattle.events.specs.declared.Walked.{Walked}
 use Rattle.events.specs.declared.Walked.the-variants.{Done, Stopped}
 use Rattle.events.specs.Judged.{judged}

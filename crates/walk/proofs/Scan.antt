@@ -13,7 +13,7 @@ use Rattle.value.specs.declared.View.{View}
 use Rattle.value.specs.declared.Span.{Span}
 use Rattle.value.specs.declared.Value.{Value}
 use Rattle.entry.specs.Entries.{placeAt}
-use Rattle.jsonb.specs.Said.{Said, says, nothing, refuses}
+use Rattle.gate.specs.Said.{Said, says, nothing, refuses}
 use Rattle.events.specs.Events.{eventOf}
 use Rattle.events.specs.Judged.{Stand, Judged, bad, good, spot, valueJudged, keyJudged, judged}
 use Rattle.events.specs.Text.{isText, isTextual}

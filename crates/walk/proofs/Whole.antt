@@ -45,11 +45,11 @@ use Rattle.content.specs.declared.Header.the-variants as header
 use Rattle.content.specs.declared.Part.{Part}
 use Rattle.content.specs.declared.Part.the-variants as part
 use Rattle.entry.specs.Entries.{endOf, isInlined, placeAt, keyPlaceAt, pointedAt, typedEntry, entryOf, entryAt, entryRead, keyEntryAt, keyRead, valueStart}
-use Rattle.jsonb.specs.Said.{Said, says, nothing, refuses, readSaid, partSaid}
-use Rattle.jsonb.specs.Views.{typedAt, rootRead, names, matches, gated, elemAt, keyAt}
-use Rattle.jsonb.specs.Course.{Whole, gateOf}
-use Rattle.jsonb.specs.declared.gate.Gate.the-variants.{Open}
-use Rattle.jsonb.proofs.Gates.{open-whole, whole-entry, whole-key}
+use Rattle.gate.specs.Said.{Said, says, nothing, refuses, readSaid, partSaid}
+use Rattle.jsonb.specs.Views.{typedAt, rootRead, elemAt, keyAt}
+use Rattle.gate.specs.Before.{names, matches, gated, Whole, gateOf}
+use Rattle.gate.specs.declared.Gate.the-variants.{Open}
+use Rattle.gate.proofs.Gates.{open-whole, whole-entry, whole-key}
 use Rattle.events.specs.Events.{noKey}
 use Rattle.events.specs.Judged.{Stand}
 use Rattle.walk.specs.Paths.{rootStand, child, viewIn, countIn}

@@ -12,7 +12,7 @@ use Rattle.content.specs.declared.Read.the-variants as read
 use Rattle.walk.specs.declared.Leads.{Leads}
 use Rattle.walk.specs.declared.Leads.the-variants.{Array, Object, Nothing}
 use Rattle.entry.specs.Entries.{placeAt, keyPlaceAt, entryRead, keyRead, valueStart}
-use Rattle.jsonb.specs.Said.{says, readSaid, partSaid}
+use Rattle.gate.specs.Said.{says, readSaid, partSaid}
 use Rattle.events.specs.Events.{noKey}
 use Rattle.events.specs.Judged.{Stand, judged}
 use Rattle.events.specs.Listing.{Listing, fault, entries, node}

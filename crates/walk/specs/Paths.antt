@@ -11,7 +11,7 @@ use Rattle.value.specs.declared.Value.{Value}
 use Rattle.value.specs.declared.Value.the-variants as value
 use Rattle.content.specs.Reading.{kind, view}
 use Rattle.entry.specs.Entries.{placeAt, keyPlaceAt, valueStart}
-use Rattle.jsonb.specs.Said.{Said, says, nothing, refuses, readSaid}
+use Rattle.gate.specs.Said.{Said, says, nothing, refuses, readSaid}
 use Rattle.jsonb.specs.Views.{rootRead, elemAt, keyAt}
 use Rattle.events.specs.Events.{noKey}
 use Rattle.events.specs.Judged.{Stand, Judged, bad, judged}

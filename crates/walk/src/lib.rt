@@ -12,7 +12,7 @@ ghost use Prim.Native.Nat.{_≤_};
 ghost use Rattle.value.specs.declared.Value.the-variants.{Container};
 ghost use Rattle.entry.specs.Entries.{entryRead, placeAt, valueStart};
 ghost use Rattle.jsonb.specs.Views.{rootRead};
-ghost use Rattle.jsonb.specs.Said.{readSaid};
+ghost use Rattle.gate.specs.Said.{readSaid};
 ghost use Rattle.events.specs.Judged.{spot, valueJudged, judged};
 ghost use Rattle.events.specs.Listing.{node, childless};
 ghost use Rattle.events.specs.Lay.{lay, laid};

@@ -12,7 +12,7 @@ use Rattle.codes.specs.declared.types.JsonbType.the-variants as type
 use Rattle.value.specs.declared.Scalar.the-variants as scalar
 use Rattle.value.specs.declared.Value.the-variants as value
 use Rattle.content.specs.declared.Read.the-variants as read
-use Rattle.jsonb.specs.Said.{readSaid}
+use Rattle.gate.specs.Said.{readSaid}
 use Rattle.jsonb.specs.Views.{rootRead}
 use Rattle.events.specs.declared.Walked.{Walked}
 use Rattle.events.specs.declared.Walked.the-variants.{Done, Stopped}

@@ -18,7 +18,7 @@ use Rattle.content.specs.declared.Read.the-variants as read
 use Rattle.content.specs.declared.Part.{Part}
 use Rattle.content.specs.declared.Part.the-variants as part
 use Rattle.entry.specs.Entries.{entryRead, keyRead}
-use Rattle.jsonb.specs.Said.{Said, says, nothing, refuses, readSaid, partSaid}
+use Rattle.gate.specs.Said.{Said, says, nothing, refuses, readSaid, partSaid}
 use Rattle.jsonb.specs.Views.{rootRead}
 use Rattle.events.specs.declared.Spot.{Spot}
 use Rattle.events.specs.Events.{noKey, eventOf}

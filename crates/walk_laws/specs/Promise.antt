@@ -16,7 +16,7 @@ use Rattle.value.specs.declared.Scalar.{Scalar}
 use Rattle.value.specs.declared.Scalar.the-variants as scalar
 use Rattle.value.specs.declared.Value.{Value}
 use Rattle.value.specs.declared.Value.the-variants as value
-use Rattle.jsonb.specs.Said.{Said, says, nothing, refuses}
+use Rattle.gate.specs.Said.{Said, says, nothing, refuses}
 use Rattle.events.specs.declared.Event.{Event}
 use Rattle.events.specs.declared.Walked.{Walked}
 use Rattle.events.specs.declared.Walked.the-variants.{Done, Stopped}

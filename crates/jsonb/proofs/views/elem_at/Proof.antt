@@ -1,9 +1,9 @@
 -- An open gate gives a whole container, whose entry is read; any other answer of the gate is passed on.
 -- Assumes nothing.
 use mathlib.Core.Path.{ap, _∙_}
-use Rattle.jsonb.specs.Said.{readSaid}
+use Rattle.gate.specs.Said.{readSaid}
 use Rattle.jsonb.specs.Views.{elemAt}
-use Rattle.jsonb.proofs.Gates.{said, open-whole, whole-entry}
+use Rattle.gate.proofs.Gates.{said, open-whole, whole-entry}
 use borrow.Author.Needs.{needs}
 use Rattle.jsonb.proofs.views.elem_at.Statement.{statement}
 use Rattle.jsonb.proofs.views.elem_at.Tie as tie

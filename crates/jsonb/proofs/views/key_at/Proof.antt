@@ -1,9 +1,9 @@
 -- An open gate gives a whole object, whose key is read; any other answer of the gate is passed on.
 -- Assumes nothing.
 use mathlib.Core.Path.{ap, _∙_}
-use Rattle.jsonb.specs.Said.{partSaid}
+use Rattle.gate.specs.Said.{partSaid}
 use Rattle.jsonb.specs.Views.{keyAt}
-use Rattle.jsonb.proofs.Gates.{said, open-whole, whole-key}
+use Rattle.gate.proofs.Gates.{said, open-whole, whole-key}
 use borrow.Author.Needs.{needs}
 use Rattle.jsonb.proofs.views.key_at.Statement.{statement}
 use Rattle.jsonb.proofs.views.key_at.Tie as tie
