@@ -1,5 +1,3 @@
-pub mod Numbers
-pub mod Layout
 pub mod Packed
 pub mod Read
 pub mod Write

@@ -1,0 +1,4 @@
+pub mod Finite
+pub mod Tab
+pub mod Accept
+pub mod Sizes
