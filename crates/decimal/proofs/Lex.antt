@@ -12,7 +12,7 @@ use lib.Arith.{digits-lt}
 use lib.ListN.{length, getD, replicate, length-append, length-replicate}
 use lib.Seq.{ext-getD}
 use borrow.Author.Tests.{lt-ltb, le-ltb, ltb-true, ltb-false}
-use Rattle.sizes.specs.Numbers.{number, Below}
+use Rattle.groups.specs.Numbers.{number, Below}
 use Rattle.decimal.specs.Value.{magnitude}
 use Rattle.decimal.specs.Course.{placed, orderN}
 use Rattle.decimal.specs.declared.Compared.the-variants.{Less, Equal, Greater}

@@ -9,12 +9,12 @@ use native.Mathlib.Omega.{arith}
 use lib.ListN.{length, getD, drop, replicate, length-replicate, length-append, List·getD-append}
 use borrow.Author.Tests.{eq-eqb, ne-eqb}
 use Rattle.refusal.specs.Told.{Told, answer, refusal}
-use Rattle.sizes.specs.Layout.{sizeIn}
+use Rattle.groups.specs.Layout.{sizeIn}
 use Rattle.groups.specs.Packed.{bytesOf}
 use Rattle.groups.specs.Write.{written, writeTold, writeLeaves}
-use Rattle.sizes.specs.declared.Form.the-variants.{Digits}
-use Rattle.sizes.proofs.Accept.{well-digits, is-false}
-use Rattle.sizes.proofs.Sizes.{digits-size}
+use Rattle.groups.specs.declared.Form.the-variants.{Digits}
+use Rattle.groups.proofs.Accept.{well-digits, is-false}
+use Rattle.groups.proofs.Sizes.{digits-size}
 use Rattle.groups.proofs.Store.{length-to, to-below}
 use Rattle.groups.proofs.Room.{writes}
 use Rattle.numeral.specs.Read.{readText}

@@ -10,15 +10,15 @@ use lib.Dec.{T, ltb, eqb, lit<, leb·suc-suc, eqb·suc-zero}
 use lib.IntN.{pos}
 use lib.ListN.{length, getD, List·getD-eq-default}
 use borrow.Author.Tests.{ltb-true, ltb-false, eqb-true, ne-eqb}
-use Rattle.sizes.specs.Layout.{digitsAt}
-use Rattle.sizes.specs.Numbers.{number, Below, both, all}
-use Rattle.sizes.specs.Record.{unitOf}
-use Rattle.sizes.specs.Record.{wellAt, wellFormed, digitsOk}
+use Rattle.groups.specs.Layout.{digitsAt}
+use Rattle.groups.specs.Numbers.{number, Below, both, all}
+use Rattle.groups.specs.Read.{unitOf}
+use Rattle.groups.specs.Write.{wellAt, wellFormed, digitsOk}
 use Rattle.decimal.specs.Value.{magnitude, signed, isNought, belowZero, orderZ}
 use Rattle.decimal.specs.Course.{orderN}
 use Rattle.decimal.specs.declared.Compared.the-variants.{Less, Greater}
-use Rattle.sizes.proofs.Accept.{both-true}
-use Rattle.sizes.proofs.Tab.{all-each}
+use Rattle.groups.proofs.Accept.{both-true}
+use Rattle.groups.proofs.Tab.{all-each}
 use Rattle.groups.proofs.Places.{stored-lt, digits-le}
 use Rattle.decimal.proofs.Lex.{pow-pos-of}
 

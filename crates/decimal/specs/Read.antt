@@ -6,11 +6,11 @@ use mathlib.Core.Bool.{Bool, true, false, cond}
 use mathlib.Core.List.{List, [], _∷_}
 use lib.Dec.{ltb, eqb}
 use lib.ListN.{getD}
-use Rattle.sizes.specs.Numbers.{tab, leadingIn}
-use Rattle.sizes.specs.Layout.{groupsOf}
+use Rattle.groups.specs.Numbers.{tab, leadingIn}
+use Rattle.groups.specs.Layout.{groupsOf}
 use Rattle.groups.specs.Read.{readGroups, zeros}
-use Rattle.sizes.specs.declared.Form.{Form}
-use Rattle.sizes.specs.declared.Form.the-variants.{Plain, Inverted}
+use Rattle.groups.specs.declared.Form.{Form}
+use Rattle.groups.specs.declared.Form.the-variants.{Plain, Inverted}
 use Rattle.groups.specs.declared.Groups.{Groups}
 use Rattle.decimal.specs.declared.Decimal.{Decimal}
 use Rattle.decimal.specs.declared.Answer.{Answer}

@@ -5,10 +5,10 @@ use mathlib.Core.Bool.{Bool, cond}
 use mathlib.Core.List.{List}
 use lib.Dec.{eqb}
 use Rattle.refusal.specs.Told.{Told, refusal}
-use Rattle.sizes.specs.Numbers.{tab}
+use Rattle.groups.specs.Numbers.{tab}
 use Rattle.groups.specs.Read.{storedAt}
 use Rattle.groups.specs.Write.{digitsTo, roomTold, roomLeaves}
-use Rattle.sizes.specs.declared.Form.the-variants.{Digits}
+use Rattle.groups.specs.declared.Form.the-variants.{Digits}
 use Rattle.numeral.specs.Read.{readText}
 use Rattle.numeral.specs.Print.{textOf}
 use Rattle.numeral.specs.declared.Numeral.{Numeral}

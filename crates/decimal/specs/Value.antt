@@ -7,8 +7,8 @@ use lib.Dec.{eqb}
 use lib.IntN.{ℤ, pos, negℤ}
 use lib.Signed.{ltZ}
 use Rattle.refusal.specs.Told.{Told, answer, refusal}
-use Rattle.sizes.specs.Numbers.{number, both}
-use Rattle.sizes.specs.Layout.{groupsOf}
+use Rattle.groups.specs.Numbers.{number, both}
+use Rattle.groups.specs.Layout.{groupsOf}
 use Rattle.decimal.specs.Write.{isWell}
 use Rattle.decimal.specs.declared.Decimal.{Decimal}
 use Rattle.decimal.specs.declared.Compared.{Compared}

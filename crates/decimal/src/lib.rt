@@ -4,7 +4,7 @@ mod reader;
 
 pub use groups::Counted;
 ghost use mathlib.Core.Path.{_≡_};
-ghost use Rattle.sizes.specs.Record.{sizeOf, told as countTold};
+ghost use Rattle.groups.specs.Write.{sizeOf, told as countTold};
 ghost use Rattle.decimal.specs.Read.{readBin, readPacked};
 ghost use Rattle.decimal.specs.Write.{binSize, writeBin, binLeaves};
 ghost use Rattle.decimal.specs.Text.{parseText, printTold, printLeaves};

@@ -6,7 +6,7 @@ ghost use mathlib.Core.Path.{_≡_};
 ghost use mathlib.Core.Bool.{true};
 ghost use Prim.Native.Nat.{_<_, _≤_};
 ghost use lib.ListN.{getD};
-ghost use Rattle.sizes.specs.Numbers.{Below};
+ghost use Rattle.groups.specs.Numbers.{Below};
 ghost use Rattle.decimal.specs.Write.{isWell};
 ghost use Rattle.decimal.specs.Value.{magnitude, value, isNought, belowZero, orderZ};
 ghost use Rattle.decimal.specs.Course.{placed, orderN};

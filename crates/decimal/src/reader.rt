@@ -6,7 +6,7 @@ use groups::Form;
 ghost use mathlib.Core.Path.{_≡_};
 ghost use Prim.Native.Nat.{_+_, _<_, _≤_};
 ghost use lib.ListN.{getD};
-ghost use Rattle.sizes.specs.Numbers.{tab, leadingIn, Below};
+ghost use Rattle.groups.specs.Numbers.{tab, leadingIn, Below};
 ghost use Rattle.decimal.specs.Text.{ofDigits};
 ghost use Rattle.decimal.specs.Read.{negative as isNegative, formOf, decimalOf, finished, refused};
 

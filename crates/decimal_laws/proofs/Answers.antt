@@ -7,9 +7,9 @@ use lib.Dec.{eqb}
 use lib.ListN.{length, getD}
 use Rattle.refusal.specs.Told.{Told}
 use Rattle.refusal.proofs.Answers.{one-answer}
-use Rattle.sizes.specs.Record.{told as countTold}
-use Rattle.sizes.specs.declared.Counted.{Counted}
-use Rattle.sizes.specs.declared.Counted.the-variants as counted
+use Rattle.groups.specs.Write.{told as countTold}
+use Rattle.groups.specs.declared.Counted.{Counted}
+use Rattle.groups.specs.declared.Counted.the-variants as counted
 use Rattle.decimal.specs.Value.{told as orderTold}
 use Rattle.decimal.specs.declared.Compared.{Compared}
 use Rattle.decimal.specs.declared.Compared.the-variants as compared

@@ -9,9 +9,9 @@ use native.Mathlib.Omega.{arith}
 use lib.Dec.{eqb, ltb, leb, eqb→eq, ltb→lt, leb→le}
 use lib.ListN.{length, getD, take, length-map}
 use borrow.Author.Tests.{le-ltb, lt-ltb}
-use Rattle.sizes.specs.Numbers.{Below}
+use Rattle.groups.specs.Numbers.{Below}
 use Rattle.groups.specs.Packed.{flip, flipFirst, invert, bytesOf, digitsIn}
-use Rattle.sizes.proofs.Finite.{at}
+use Rattle.groups.proofs.Finite.{at}
 use Rattle.groups.proofs.Marks.{flip-front, length-flip}
 use Rattle.decimal.specs.Read.{negative, formOf}
 

@@ -9,19 +9,18 @@ use native.Mathlib.Omega.{arith}
 use lib.Dec.{ltb, eqb, lit<}
 use lib.ListN.{length, getD, drop, replicate, length-append, length-map, List·getD-eq-default}
 use borrow.Author.Tests.{ltb-true, ltb-false, lt-ltb, le-ltb, leb-true, eqb-true, eqb-false}
-use Rattle.sizes.specs.Numbers.{tab, leadingIn, Below}
-use Rattle.sizes.specs.Layout.{groupsOf, side, baseOf, digitsAt, sizeIn}
+use Rattle.groups.specs.Numbers.{tab, leadingIn, Below}
+use Rattle.groups.specs.Layout.{groupsOf, side, baseOf, digitsAt, sizeIn}
 use Rattle.groups.specs.Packed.{digitsIn}
-use Rattle.sizes.specs.Record.{unitOf}
-use Rattle.groups.specs.Read.{rangeAt, storedAt, readGroups}
-use Rattle.sizes.specs.Record.{digitsOk, wellAt, wellFormed}
-use Rattle.sizes.specs.declared.Form.{Form}
-use Rattle.sizes.specs.declared.Form.the-variants.{Digits}
-use Rattle.sizes.proofs.Accept.{both-true, in-range}
+use Rattle.groups.specs.Read.{unitOf, rangeAt, storedAt, readGroups}
+use Rattle.groups.specs.Write.{digitsOk, wellAt, wellFormed}
+use Rattle.groups.specs.declared.Form.{Form}
+use Rattle.groups.specs.declared.Form.the-variants.{Digits}
+use Rattle.groups.proofs.Accept.{both-true, in-range}
 use Rattle.groups.proofs.Marks.{length-in}
 use Rattle.groups.proofs.Opened.{opened, reads, digits-range}
-use Rattle.sizes.proofs.Sizes.{digits-size}
-use Rattle.sizes.proofs.Tab.{tab-at, length-tab, all-each}
+use Rattle.groups.proofs.Sizes.{digits-size}
+use Rattle.groups.proofs.Tab.{tab-at, length-tab, all-each}
 use Rattle.numeral.specs.Read.{strip, minus, unsigned, run, pointed, wholePart, fractionPart, isText, fewDigits}
 use Rattle.numeral.specs.Read.{digitOf, digitsIn as textDigits, noNumeral, numeralOf, readUnsigned, readText}
 use Rattle.numeral.specs.declared.Numeral.{Numeral}

@@ -10,17 +10,16 @@ use native.Mathlib.Omega.{arith}
 use lib.Dec.{leb, ltb}
 use lib.ListN.{length, length-append}
 use borrow.Author.Tests.{le-leb}
-use Rattle.sizes.specs.Numbers.{number, tab, all, leadingIn}
-use Rattle.sizes.specs.Layout.{width, groupsOf, side, digitsAt, offset, sizeIn, size}
+use Rattle.groups.specs.Numbers.{number, tab, all, leadingIn}
+use Rattle.groups.specs.Layout.{width, groupsOf, side, digitsAt, offset, sizeIn, size}
 use Rattle.groups.specs.Packed.{flipFirst, invert, digitsIn}
-use Rattle.sizes.specs.Record.{inRange, unitOf}
-use Rattle.groups.specs.Read.{groupAt, rangeAt, storedAt, groupsIn, readGroups}
-use Rattle.sizes.specs.declared.Form.{Form}
-use Rattle.sizes.specs.declared.Form.the-variants.{Plain}
-use Rattle.sizes.proofs.Accept.{in-range}
+use Rattle.groups.specs.Read.{inRange, groupAt, rangeAt, storedAt, unitOf, groupsIn, readGroups}
+use Rattle.groups.specs.declared.Form.{Form}
+use Rattle.groups.specs.declared.Form.the-variants.{Plain}
+use Rattle.groups.proofs.Accept.{in-range}
 use Rattle.groups.proofs.Marks.{length-in}
-use Rattle.sizes.proofs.Sizes.{size-pos}
-use Rattle.sizes.proofs.Tab.{tab-at, length-tab, filled}
+use Rattle.groups.proofs.Sizes.{size-pos}
+use Rattle.groups.proofs.Tab.{tab-at, length-tab, filled}
 use Rattle.decimal.specs.Read.{negative, formOf, nought, decimalOf, without, finished, refused, accepted, fromGroups, readBin, readPacked}
 use Rattle.decimal_laws.proofs.Bytes.{after}
 use Rattle.decimal_laws.proofs.Places.{range-front, stored-front}

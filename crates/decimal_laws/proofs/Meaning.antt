@@ -6,10 +6,10 @@ use mathlib.Core.List.{List}
 use Prim.Native.Nat.{ℕ, _+_, _-_, _*_, _^_, _≤_}
 use lib.ListN.{length, take, drop, take-append-drop}
 use lib.Seq.{length-take-le}
-use Rattle.sizes.specs.Numbers.{number, tab}
-use Rattle.sizes.specs.Layout.{groupsOf}
+use Rattle.groups.specs.Numbers.{number, tab}
+use Rattle.groups.specs.Layout.{groupsOf}
 use Rattle.groups.specs.Read.{storedAt}
-use Rattle.sizes.specs.declared.Form.the-variants.{Digits}
+use Rattle.groups.specs.declared.Form.the-variants.{Digits}
 use Rattle.numeral.specs.Read.{readText}
 use Rattle.numeral.proofs.Limits.{read-within}
 use Rattle.decimal.specs.Write.{isWell}

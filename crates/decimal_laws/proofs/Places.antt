@@ -11,18 +11,16 @@ use lib.Dec.{leb, ltb, leb→le, lit<}
 use lib.ListN.{length, getD, take, drop, length-drop, List·getD-append}
 use lib.Seq.{take-append-le, drop-append-le, take-all, drop-at, getD-take}
 use borrow.Author.Tests.{ltb-true, ltb-false, eqb-true, lt-ltb}
-use Rattle.sizes.specs.Numbers.{number, digits, all}
-use Rattle.sizes.specs.Layout.{width, groupsOf, side, baseOf, wideOf, digitsAt, offset, sizeIn}
-use Rattle.sizes.specs.Record.{unitOf}
-use Rattle.groups.specs.Read.{groupAt, rangeAt, storedAt}
-use Rattle.sizes.specs.Record.{wellAt, wellFormed, digitsOk}
-use Rattle.groups.specs.Write.{groupDigits, digitsTo}
-use Rattle.sizes.specs.declared.Form.{Form}
-use Rattle.sizes.specs.declared.Form.the-variants.{Plain, Inverted, Digits}
-use Rattle.sizes.proofs.Accept.{both-true}
+use Rattle.groups.specs.Numbers.{number, digits, all}
+use Rattle.groups.specs.Layout.{width, groupsOf, side, baseOf, wideOf, digitsAt, offset, sizeIn}
+use Rattle.groups.specs.Read.{groupAt, rangeAt, storedAt, unitOf}
+use Rattle.groups.specs.Write.{groupDigits, digitsTo, wellAt, wellFormed, digitsOk}
+use Rattle.groups.specs.declared.Form.{Form}
+use Rattle.groups.specs.declared.Form.the-variants.{Plain, Inverted, Digits}
+use Rattle.groups.proofs.Accept.{both-true}
 use Rattle.decimal.specs.Read.{formOf}
-use Rattle.sizes.proofs.Finite.{at}
-use Rattle.sizes.proofs.Tab.{all-each}
+use Rattle.groups.proofs.Finite.{at}
+use Rattle.groups.proofs.Tab.{all-each}
 use Rattle.groups.proofs.Radix.{number-snoc, length-digits}
 use Rattle.groups.proofs.Places.{within, offset-more, offset-mono, digits-le}
 use Rattle.groups.proofs.Store.{length-to, base-pos}

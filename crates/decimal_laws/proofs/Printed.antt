@@ -11,14 +11,14 @@ use lib.Dec.{eqb}
 use lib.ListN.{length, take, drop, length-append, length-drop, take-append-drop}
 use lib.Seq.{take-all, length-take-le}
 use borrow.Author.Tests.{eq-eqb, ne-eqb, eqb-true, not-true}
-use Rattle.sizes.specs.Numbers.{number, tab, Below}
-use Rattle.sizes.specs.Layout.{sizeIn}
+use Rattle.groups.specs.Numbers.{number, tab, Below}
+use Rattle.groups.specs.Layout.{sizeIn}
 use Rattle.groups.specs.Read.{storedAt}
-use Rattle.sizes.specs.declared.Form.the-variants.{Digits}
-use Rattle.sizes.proofs.Accept.{well-digits}
-use Rattle.sizes.proofs.Tab.{tab-at, length-tab, filled}
+use Rattle.groups.specs.declared.Form.the-variants.{Digits}
+use Rattle.groups.proofs.Accept.{well-digits}
+use Rattle.groups.proofs.Tab.{tab-at, length-tab, filled}
 use Rattle.groups.proofs.Opened.{below-drop}
-use Rattle.sizes.proofs.Sizes.{digits-size}
+use Rattle.groups.proofs.Sizes.{digits-size}
 use Rattle.groups.proofs.Store.{length-to, to-below}
 use Rattle.numeral.specs.Read.{padded, readText}
 use Rattle.numeral.specs.Print.{show, signText, wholeDigits, fractionText}

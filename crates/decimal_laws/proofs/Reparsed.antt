@@ -10,8 +10,8 @@ use lib.Dec.{eqb, lit<}
 use lib.ListN.{length, getD, take, drop, length-map}
 use lib.Seq.{take-at, drop-at}
 use borrow.Author.Tests.{le-leb, eq-eqb, ne-eqb, eqb-true, eqb-false}
-use Rattle.sizes.specs.Numbers.{both, Below}
-use Rattle.sizes.proofs.Accept.{both-true}
+use Rattle.groups.specs.Numbers.{both, Below}
+use Rattle.groups.proofs.Accept.{both-true}
 use Rattle.numeral.specs.Read.{strip, minus, unsigned, isDigit, run, pointed, wholePart, fractionPart, isText, fewDigits}
 use Rattle.numeral.specs.Read.{digitOf, digitsIn, padded, readUnsigned, readText}
 use Rattle.numeral.specs.Print.{show, signText}

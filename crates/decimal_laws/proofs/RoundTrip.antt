@@ -11,24 +11,22 @@ use lib.ListN.{length, getD, take, drop, length-drop, length-append}
 use lib.Seq.{take-add}
 use borrow.Author.Tests.{le-leb, ne-eqb, eqb-true}
 use Rattle.refusal.specs.Told.{answer}
-use Rattle.sizes.specs.Numbers.{tab, all, Below}
-use Rattle.sizes.specs.Layout.{baseOf, wideOf, digitsAt, offset, sizeIn, size}
+use Rattle.groups.specs.Numbers.{tab, all, Below}
+use Rattle.groups.specs.Layout.{baseOf, wideOf, digitsAt, offset, sizeIn, size}
 use Rattle.groups.specs.Packed.{digitsIn}
-use Rattle.sizes.specs.Record.{unitOf}
-use Rattle.groups.specs.Read.{groupAt, rangeAt, storedAt, readGroups}
-use Rattle.sizes.specs.Record.{digitsOk, wellAt, wellFormed}
-use Rattle.groups.specs.Write.{groupDigits, digitsTo, written}
-use Rattle.sizes.specs.declared.Form.{Form}
+use Rattle.groups.specs.Read.{groupAt, rangeAt, storedAt, unitOf, readGroups}
+use Rattle.groups.specs.Write.{digitsOk, groupDigits, digitsTo, wellAt, wellFormed, written}
+use Rattle.groups.specs.declared.Form.{Form}
 use Rattle.groups.specs.declared.Groups.{Groups}
-use Rattle.sizes.proofs.Accept.{in-range, well-digits}
-use Rattle.sizes.proofs.Tab.{tab-at, filled, all-true, all-each}
+use Rattle.groups.proofs.Accept.{in-range, well-digits}
+use Rattle.groups.proofs.Tab.{tab-at, filled, all-true, all-each}
 use Rattle.groups.proofs.Radix.{digits-number}
 use Rattle.groups.proofs.Marks.{length-in}
 use Rattle.groups.proofs.Places.{within, unit-pos}
 use Rattle.groups.proofs.Opened.{opened, reads, below-drop, range-of}
 use Rattle.groups.proofs.Store.{length-to, length-written, to-below}
 use Rattle.groups.proofs.Room.{writes}
-use Rattle.sizes.proofs.Sizes.{inverted-offset, size-pos}
+use Rattle.groups.proofs.Sizes.{inverted-offset, size-pos}
 use Rattle.decimal.specs.Read.{negative, formOf, decimalOf, finished, refused, accepted, fromGroups, readBin}
 use Rattle.decimal.specs.Write.{isWell, packed, writeBin, binLeaves}
 use Rattle.decimal.specs.declared.Decimal.{Decimal}

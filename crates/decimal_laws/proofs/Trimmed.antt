@@ -10,9 +10,9 @@ use lib.Dec.{eqb, lit<}
 use lib.ListN.{length, take, drop, replicate, take-append-drop, length-append, length-replicate}
 use lib.Seq.{getD-append-add, length-take-le, take-take}
 use borrow.Author.Tests.{eqb-true, ne-eqb}
-use Rattle.sizes.specs.Numbers.{number, both, Below}
-use Rattle.sizes.specs.Layout.{side, groupsOf}
-use Rattle.sizes.proofs.Accept.{both-true}
+use Rattle.groups.specs.Numbers.{number, both, Below}
+use Rattle.groups.specs.Layout.{side, groupsOf}
+use Rattle.groups.proofs.Accept.{both-true}
 use Rattle.groups.proofs.Opened.{below-take}
 use Rattle.numeral.specs.Print.{unpadded, firstDigits, wholeDigits}
 use Rattle.numeral.proofs.Shown.{whole-none}

@@ -1,8 +1,11 @@
+pub mod Finite
+pub mod Tab
 pub mod Trim
+pub mod Accept
+pub mod Sizes
 pub mod Radix
 pub mod Marks
 pub mod Places
 pub mod Store
 pub mod Room
 pub mod Opened
-pub mod Counts

@@ -8,8 +8,8 @@ use native.Mathlib.Omega.{arith}
 use lib.ListN.{length, getD, take, drop, set, length-map, take-append-drop}
 use lib.Seq.{length-take-le}
 use Rattle.groups.specs.Packed.{flip, flipFirst, invert, bytesOf, digitsIn}
-use Rattle.sizes.specs.declared.Form.{Form}
-use Rattle.sizes.specs.declared.Form.the-variants.{Plain, Inverted, Digits}
+use Rattle.groups.specs.declared.Form.{Form}
+use Rattle.groups.specs.declared.Form.the-variants.{Plain, Inverted, Digits}
 
 pub getD-map : (f : ℕ → ℕ) (xs : List ℕ) (i : ℕ) → i < length xs → getD (map f xs) i 0 ≡ f (getD xs i 0)
 getD-map f [] i h = absurd (not-suc-le-zero h)

@@ -12,18 +12,17 @@ use lib.ListN.{length, take, drop, length-drop}
 use lib.Seq.{getD-drop, length-take-le}
 use borrow.Author.Tests.{lt-ltb, le-leb, leb-true}
 use Rattle.refusal.specs.Told.{answer}
-use Rattle.sizes.specs.Numbers.{number, tab, all, Below}
-use Rattle.sizes.specs.Layout.{digitsAt, offset, sizeIn, size}
+use Rattle.groups.specs.Numbers.{number, tab, all, Below}
+use Rattle.groups.specs.Layout.{digitsAt, offset, sizeIn, size}
 use Rattle.groups.specs.Packed.{digitsIn}
-use Rattle.sizes.specs.Record.{inRange}
-use Rattle.groups.specs.Read.{groupAt, rangeAt, storedAt, noGroups, groupsIn, readGroups}
-use Rattle.sizes.specs.Record.{sizeOf, wellFormed}
-use Rattle.sizes.specs.declared.Form.{Form}
-use Rattle.sizes.specs.declared.Form.the-variants.{Digits}
-use Rattle.sizes.proofs.Accept.{well-digits}
-use Rattle.sizes.proofs.Tab.{all-true}
+use Rattle.groups.specs.Read.{inRange, groupAt, rangeAt, storedAt, noGroups, groupsIn, readGroups}
+use Rattle.groups.specs.Write.{sizeOf, wellFormed}
+use Rattle.groups.specs.declared.Form.{Form}
+use Rattle.groups.specs.declared.Form.the-variants.{Digits}
+use Rattle.groups.proofs.Accept.{well-digits}
+use Rattle.groups.proofs.Tab.{all-true}
 use Rattle.groups.proofs.Places.{within}
-use Rattle.sizes.proofs.Sizes.{digits-size}
+use Rattle.groups.proofs.Sizes.{digits-size}
 
 -- ---- the three tests
 three : (a b c : Bool) (gs : List ℕ) → cond a (cond b (cond c (record { refusal = 0; groups = gs }) (noGroups 22)) (noGroups 21)) (noGroups 20) .refusal ≡ 0

@@ -9,11 +9,10 @@ use native.Mathlib.Numerals.{add-one}
 use native.Mathlib.Omega.{arith}
 use lib.Pow.{pow-add}
 use lib.Dec.{ltb, lit<}
-use Rattle.sizes.specs.Layout.{wideOf, groupsOf, side, digitsAt, offset}
-use Rattle.sizes.specs.Record.{unitOf}
-use Rattle.groups.specs.Read.{storedAt, rangeAt}
+use Rattle.groups.specs.Layout.{wideOf, groupsOf, side, digitsAt, offset}
+use Rattle.groups.specs.Read.{unitOf, storedAt, rangeAt}
 use Rattle.groups.specs.Course.{oneAt}
-use Rattle.sizes.specs.declared.Form.{Form}
+use Rattle.groups.specs.declared.Form.{Form}
 use Rattle.groups.specs.declared.reader.One.{One}
 use mathlib.Core.List.{List}
 

@@ -9,7 +9,7 @@ use native.Mathlib.Numerals.{add-one}
 use lib.ListN.{length, getD, take, drop, length-append, length-drop}
 use lib.Seq.{take-suc, getD-drop}
 use lib.Arith.{digits-div, digits-mod}
-use Rattle.sizes.specs.Numbers.{number, digits, Below}
+use Rattle.groups.specs.Numbers.{number, digits, Below}
 
 -- one more digit
 pub number-snoc : (b : ℕ) (xs : List ℕ) (y : ℕ) → number b (xs ++ (y ∷ [])) ≡ number b xs * b + y

@@ -7,10 +7,9 @@ use lib.ListN.{length, drop}
 use borrow.Author.Tests.{le-leb, lt-leb}
 use Rattle.refusal.specs.Told.{answer, refusal}
 use mathlib.Core.Bool.{true}
-use Rattle.sizes.specs.Layout.{sizeIn}
-use Rattle.sizes.specs.Record.{wellFormed}
-use Rattle.groups.specs.Write.{written, roomTold, roomLeaves, writeTold, writeLeaves}
-use Rattle.sizes.specs.declared.Form.{Form}
+use Rattle.groups.specs.Layout.{sizeIn}
+use Rattle.groups.specs.Write.{wellFormed, written, roomTold, roomLeaves, writeTold, writeLeaves}
+use Rattle.groups.specs.declared.Form.{Form}
 use Rattle.groups.proofs.Store.{length-written}
 
 pub short : (bs out : List ℕ) {n : ℕ} → length bs ≡ n → length out < n → (roomTold bs out ≡ refusal 25) × (roomLeaves bs out ≡ out)

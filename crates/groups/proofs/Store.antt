@@ -8,12 +8,12 @@ use native.Mathlib.Numerals.{add-one}
 use native.Mathlib.Omega.{arith}
 use lib.ListN.{length, getD, take, drop, set, length-append, length-map}
 use lib.Seq.{take-set-le, drop-cons, drop-set-lt, getD-set-same, lt-length-set, take-at, drop-at, drop-drop, getD-at, set-at, take-suc, length-take-le}
-use Rattle.sizes.specs.Layout.{baseOf, wideOf, digitsAt, offset, sizeIn}
-use Rattle.sizes.specs.declared.Form.{Form}
-use Rattle.sizes.specs.declared.Form.the-variants.{Plain, Inverted, Digits}
+use Rattle.groups.specs.Layout.{baseOf, wideOf, digitsAt, offset, sizeIn}
+use Rattle.groups.specs.declared.Form.{Form}
+use Rattle.groups.specs.declared.Form.the-variants.{Plain, Inverted, Digits}
 use lib.Dec.{lit<}
-use Rattle.sizes.specs.Numbers.{digits, Below}
-use Rattle.sizes.specs.Record.{unitOf}
+use Rattle.groups.specs.Numbers.{digits, Below}
+use Rattle.groups.specs.Read.{unitOf}
 use Rattle.groups.specs.Write.{digitsTo, groupDigits, written}
 use Rattle.groups.proofs.Radix.{length-digits, below-append, digits-below}
 use Rattle.groups.proofs.Marks.{length-of}

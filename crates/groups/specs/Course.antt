@@ -3,9 +3,9 @@
 use Prim.Native.Nat.{ℕ, _+_}
 use mathlib.Core.Bool.{true, false, cond}
 use mathlib.Core.List.{List}
-use Rattle.sizes.specs.Layout.{offset}
+use Rattle.groups.specs.Layout.{offset}
 use Rattle.groups.specs.Read.{rangeAt, storedAt}
-use Rattle.sizes.specs.declared.Form.{Form}
+use Rattle.groups.specs.declared.Form.{Form}
 use Rattle.groups.specs.declared.reader.One.{One}
 
 -- the group at place k as it is stored, if it is in range, and the place after it

@@ -1,3 +1,5 @@
+pub mod Numbers
+pub mod Layout
 pub mod Packed
 pub mod Read
 pub mod Write

@@ -6,12 +6,15 @@ use mathlib.Core.Bool.{Bool, cond}
 use mathlib.Core.List.{List}
 use lib.Dec.{leb, ltb}
 use lib.ListN.{length, take, drop, replicate}
-use Rattle.sizes.specs.Numbers.{number, tab, all}
-use Rattle.sizes.specs.Layout.{digitsAt, baseOf, wideOf, offset, sizeIn}
-use Rattle.sizes.specs.Record.{inRange, unitOf}
+use Rattle.groups.specs.Numbers.{number, tab, both, all}
+use Rattle.groups.specs.Layout.{groupsOf, digitsAt, baseOf, wideOf, offset, sizeIn}
 use Rattle.groups.specs.Packed.{digitsIn}
-use Rattle.sizes.specs.declared.Form.{Form}
+use Rattle.groups.specs.declared.Form.{Form}
 use Rattle.groups.specs.declared.Groups.{Groups}
+
+-- accepted: precision at most 65, scale at most 30 and at most the precision. (0 with 0 is among them, and has no digits)
+unfoldable pub inRange : ℕ → ℕ → Bool
+inRange p s = both (leb p 65) (both (leb s 30) (leb s p))
 
 -- the number in the group at place k, of the digits ds of all groups
 unfoldable pub groupAt : Form → ℕ → ℕ → List ℕ → ℕ → ℕ
@@ -20,6 +23,10 @@ groupAt F i f ds k = number (baseOf F) (take (wideOf F (digitsAt i f k)) (drop (
 -- a group of d digits is below 10 to the d
 unfoldable pub rangeAt : Form → ℕ → ℕ → List ℕ → ℕ → Bool
 rangeAt F i f ds k = ltb (groupAt F i f ds k) (10 ^ digitsAt i f k)
+
+-- a record keeps a group of d digits of the fraction as if it had nine, so the last of a fraction is filled with zeros
+unfoldable pub unitOf : ℕ → ℕ → ℕ → ℕ
+unitOf i k d = cond (ltb k (groupsOf i)) 1 (10 ^ (9 - d))
 
 unfoldable pub storedAt : Form → ℕ → ℕ → List ℕ → ℕ → ℕ
 storedAt F i f ds k = groupAt F i f ds k * unitOf i k (digitsAt i f k)

@@ -1,16 +1,39 @@
--- What writing the groups of a decimal answers and leaves: 26, then 25, else the count of bytes; only these change.
+-- What a well formed decimal is, and what writing its groups answers and leaves: 26, then 25, else the count of bytes; only these change.
 -- Assumes nothing.
-use Prim.Native.Nat.{ℕ, zero, suc, _/_}
-use mathlib.Core.Bool.{cond}
+use Prim.Native.Nat.{ℕ, zero, suc, _+_, _-_, _/_, _%_, _^_}
+use mathlib.Core.Bool.{Bool, cond}
 use mathlib.Core.List.{List, [], _∷_, _++_}
-use lib.Dec.{leb}
+use lib.Dec.{leb, ltb, eqb}
 use lib.ListN.{length, getD, drop}
 use Rattle.refusal.specs.Told.{Told, answer, refusal}
-use Rattle.sizes.specs.Numbers.{digits}
-use Rattle.sizes.specs.Layout.{digitsAt, baseOf, wideOf}
+use Rattle.groups.specs.Numbers.{digits, both, all}
+use Rattle.groups.specs.Layout.{digitsAt, baseOf, wideOf, size}
 use Rattle.groups.specs.Packed.{bytesOf}
-use Rattle.sizes.specs.Record.{unitOf, wellFormed}
-use Rattle.sizes.specs.declared.Form.{Form}
+use Rattle.groups.specs.Read.{inRange, unitOf}
+use Rattle.groups.specs.declared.Form.{Form}
+use Rattle.groups.specs.declared.Counted.{Counted}
+use Rattle.groups.specs.declared.Counted.the-variants.{Bytes, Refused}
+
+-- an answer that counts bytes
+abbrev pub told : Counted → Told
+told (Bytes n) = answer (n ∷ [])
+told (Refused n) = refusal n
+
+-- the size of a precision and a scale, or 20
+unfoldable pub sizeOf : ℕ → ℕ → Told
+sizeOf p s = cond (inRange p s) (answer (size (p - s) s ∷ [])) (refusal 20)
+
+-- 1 to 65 digits, at most 30 of them after the point
+unfoldable pub digitsOk : ℕ → ℕ → Bool
+digitsOk i f = both (leb 1 (i + f)) (both (leb (i + f) 65) (leb f 30))
+
+-- the group g at place k is a multiple of its unit and has no more digits than its place; where the place has no digits it is 0
+unfoldable pub wellAt : ℕ → ℕ → ℕ → ℕ → Bool
+wellAt i f k g = both (eqb (g % unitOf i k (digitsAt i f k)) 0) (ltb (g / unitOf i k (digitsAt i f k)) (10 ^ digitsAt i f k))
+
+-- what 26 is not: digits and groups in range, the last group scaled, unused groups 0
+unfoldable pub wellFormed : ℕ → ℕ → List ℕ → Bool
+wellFormed i f gs = both (digitsOk i f) (all 9 (λ k. wellAt i f k (getD gs k 0)))
 
 -- the digits of the group g at place k
 unfoldable pub groupDigits : Form → ℕ → ℕ → ℕ → ℕ → List ℕ

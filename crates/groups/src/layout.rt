@@ -1,10 +1,73 @@
-// The base and the bytes of a form.
-use sizes::Counted;
-use sizes::Form;
+// How many digits and bytes each group has.
+use super::Counted;
+use super::Form;
 ghost use mathlib.Core.Path.{_≡_};
-ghost use Prim.Native.Nat.{_+_, _≤_};
-ghost use Rattle.sizes.specs.Layout.{baseOf, sizeIn, size};
-ghost use Rattle.sizes.specs.Record.{inRange};
+ghost use Prim.Native.Nat.{_+_, _-_, _^_, _<_, _≤_};
+ghost use Rattle.groups.specs.Layout.{baseOf, wideOf, width, side, digitsAt, sizeIn, size};
+ghost use Rattle.groups.specs.Read.{inRange, unitOf};
+ghost use Rattle.groups.specs.Write.{told, sizeOf};
+
+// The bytes of a group of as many digits.
+const DIG_TO_BYTES: [usize; 10] = [0, 1, 1, 2, 2, 3, 3, 4, 4, 4];
+
+const POWERS_10: [u32; 10] = [
+    1,
+    10,
+    100,
+    1000,
+    10000,
+    100000,
+    1000000,
+    10000000,
+    100000000,
+    1000000000,
+];
+
+pub(crate) fn width_of(d: usize) -> usize
+    requires { ⌜ d ≤ 9 ⌝ }
+    ensures { λ r. ⌜ (r ≡ width d) × (r ≤ 4) ⌝ }
+{
+    DIG_TO_BYTES[d]
+}
+
+pub(crate) fn power(d: usize) -> u32
+    requires { ⌜ d ≤ 9 ⌝ }
+    ensures { λ r. ⌜ (r ≡ 10 ^ d) × ((r ≤ 1000000000) × (0 < r)) ⌝ }
+{
+    POWERS_10[d]
+}
+
+// The digits of the j-th group from the point, of a side of n digits.
+fn side_digits(n: usize, j: usize) -> usize
+    ensures { λ r. ⌜ (r ≡ side n j) × (r ≤ 9) ⌝ }
+{
+    let full = n / 9;
+    if j < full {
+        return 9;
+    }
+    if j == full { n % 9 } else { 0 }
+}
+
+// The digits of the group at place k.
+pub(crate) fn digits_at(intg: usize, frac: usize, k: usize) -> usize
+    requires { ⌜ intg ≤ 65 ⌝ }
+    ensures { λ r. ⌜ (r ≡ digitsAt intg frac k) × (r ≤ 9) ⌝ }
+{
+    let n = (intg + 8) / 9;
+    if k < n {
+        side_digits(intg, n - 1 - k)
+    } else {
+        side_digits(frac, k - n)
+    }
+}
+
+// What the number of a group of d digits at place k is stored times.
+pub(crate) fn unit(intg: usize, k: usize, d: usize) -> u32
+    requires { ⌜ (intg ≤ 65) × (d ≤ 9) ⌝ }
+    ensures { λ r. ⌜ (r ≡ unitOf intg k d) × (0 < r) ⌝ }
+{
+    if k < (intg + 8) / 9 { 1 } else { power(9 - d) }
+}
 
 pub(crate) fn base_of(form: Form) -> u32
     ensures { λ r. ⌜ (r ≡ baseOf form) × ((10 ≤ r) × (r ≤ 256)) ⌝ }
@@ -16,24 +79,33 @@ pub(crate) fn base_of(form: Form) -> u32
     }
 }
 
-pub(crate) fn accepted(p: usize, s: usize) -> bool
-    ensures { λ r. ⌜ r ≡ inRange p s ⌝ }
+pub(crate) fn wide_of(form: Form, d: usize) -> usize
+    requires { ⌜ d ≤ 9 ⌝ }
+    ensures { λ r. ⌜ (r ≡ wideOf form d) × (r ≤ 9) ⌝ }
 {
-    match sizes::size(p, s) {
-        Counted::Bytes(_) => true,
-        Counted::Refused(_) => false,
+    match form {
+        Form::Plain => width_of(d),
+        Form::Inverted => width_of(d),
+        Form::Digits => d,
     }
 }
 
-// The bytes of all groups, packed.
+pub(crate) fn accepted(p: usize, s: usize) -> bool
+    ensures { λ r. ⌜ r ≡ inRange p s ⌝ }
+{
+    if p <= 65 {
+        if s <= 30 { s <= p } else { false }
+    } else {
+        false
+    }
+}
+
+// The bytes of all groups, packed: the sum over the groups of each side, of which all but one are whole.
 fn packed_size(intg: usize, frac: usize) -> usize
     requires { ⌜ (frac ≤ 30) × (intg + frac ≤ 65) ⌝ }
     ensures { λ r. ⌜ r ≡ size intg frac ⌝ }
 {
-    match sizes::size(intg + frac, frac) {
-        Counted::Bytes(n) => n,
-        Counted::Refused(_) => 0,
-    }
+    4 * (intg / 9) + width_of(intg % 9) + (4 * (frac / 9) + width_of(frac % 9))
 }
 
 // The bytes of all groups in a form.
@@ -46,4 +118,14 @@ pub(crate) fn size_in(form: Form, intg: usize, frac: usize) -> usize
         Form::Inverted => packed_size(intg, frac),
         Form::Digits => intg + frac,
     }
+}
+
+// The packed size of a precision and a scale, or 20.
+pub fn size(precision: usize, scale: usize) -> Counted
+    ensures { λ r. ⌜ told r ≡ sizeOf precision scale ⌝ }
+{
+    if !accepted(precision, scale) {
+        return Counted::Refused(refusal::RANGE);
+    }
+    Counted::Bytes(packed_size(precision - scale, scale))
 }

@@ -1,15 +1,18 @@
 // Groups out of bytes.
+use super::Form;
 use super::Groups;
 use super::layout::accepted;
 use super::layout::base_of;
+use super::layout::digits_at;
+use super::layout::power;
 use super::layout::size_in;
-use sizes::Form;
-use sizes::place_at;
+use super::layout::unit;
+use super::layout::wide_of;
 ghost use mathlib.Core.Path.{_≡_};
 ghost use Prim.Native.Nat.{_+_, _^_, _<_, _≤_};
 ghost use lib.ListN.{length, getD, take, drop};
-ghost use Rattle.sizes.specs.Numbers.{number};
-ghost use Rattle.sizes.specs.Layout.{offset};
+ghost use Rattle.groups.specs.Numbers.{number};
+ghost use Rattle.groups.specs.Layout.{offset};
 ghost use Rattle.groups.specs.Packed.{flip, flipFirst, digitsIn};
 ghost use Rattle.groups.specs.Read.{groupsIn, readGroups, noGroups};
 ghost use Rattle.groups.specs.Course.{oneAt};
@@ -76,15 +79,16 @@ fn low(x: u64) -> u32
 
 // The group at place k, whose bytes begin at `at`.
 fn read_one(bytes: &[u8], form: Form, intg: usize, frac: usize, k: usize, at: usize) -> One
-    requires { ⌜ k < 9 ⌝ }
+    requires { ⌜ (intg ≤ 65) × (k < 9) ⌝ }
     requires { ⌜ (at ≡ offset form intg frac k) × (offset form intg frac 9 ≤ length (now bytes)) ⌝ }
     ensures { λ r. ⌜ r ≡ oneAt form intg frac (digitsIn form (now (bytes .entry))) k ⌝ }
 {
-    let p = place_at(form, intg, frac, k);
+    let d = digits_at(intg, frac, k);
+    let w = wide_of(form, d);
     let base = base_of(form) as u64;
-    let x = read_group(bytes, at, p.wide, form, base);
-    let next = at + p.wide;
-    if (p.limit as u64) <= x {
+    let x = read_group(bytes, at, w, form, base);
+    let next = at + w;
+    if (power(d) as u64) <= x {
         return One {
             ok: false,
             group: 0,
@@ -93,7 +97,7 @@ fn read_one(bytes: &[u8], form: Form, intg: usize, frac: usize, k: usize, at: us
     }
     One {
         ok: true,
-        group: low(x) * p.unit,
+        group: low(x) * unit(intg, k, d),
         next,
     }
 }

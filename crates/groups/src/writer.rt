@@ -1,20 +1,21 @@
 // Bytes out of groups.
+use super::Counted;
+use super::Form;
 use super::layout::base_of;
+use super::layout::digits_at;
 use super::layout::size_in;
+use super::layout::unit;
+use super::layout::wide_of;
 use super::reader::flipped;
-use sizes::Counted;
-use sizes::Form;
-use sizes::place_at;
-use sizes::well_formed;
+use super::record::well_formed;
 ghost use mathlib.Core.Path.{_≡_};
 ghost use mathlib.Core.List.{_++_, map};
 ghost use Prim.Native.Nat.{_+_, _<_, _≤_};
 ghost use lib.ListN.{length, take, drop};
-ghost use Rattle.sizes.specs.Numbers.{digits};
-ghost use Rattle.sizes.specs.Layout.{wideOf, digitsAt, offset};
+ghost use Rattle.groups.specs.Numbers.{digits};
+ghost use Rattle.groups.specs.Layout.{wideOf, digitsAt, offset};
 ghost use Rattle.groups.specs.Packed.{flipFirst, invert, bytesOf};
-ghost use Rattle.sizes.specs.Record.{told};
-ghost use Rattle.groups.specs.Write.{groupDigits, digitsTo, writeTold, writeLeaves};
+ghost use Rattle.groups.specs.Write.{told, groupDigits, digitsTo, writeTold, writeLeaves};
 
 fn low(x: u32) -> u8
     requires { ⌜ x < 256 ⌝ }
@@ -48,13 +49,15 @@ fn put_one(
     at: usize,
     g: u32,
 ) -> usize
+    requires { ⌜ intg ≤ 65 ⌝ }
     requires { ⌜ at + wideOf form (digitsAt intg frac k) ≤ length (now out) ⌝ }
     ensures { λ r. ⌜ r ≡ at + wideOf form (digitsAt intg frac k) ⌝ }
     ensures { λ r. ⌜ now (out .exit) ≡ take at (now (out .entry)) ++ (groupDigits form intg frac k g ++ drop r (now (out .entry))) ⌝ }
 {
-    let p = place_at(form, intg, frac, k);
-    put_group(out, at, p.wide, g / p.unit, base_of(form));
-    at + p.wide
+    let d = digits_at(intg, frac, k);
+    let w = wide_of(form, d);
+    put_group(out, at, w, g / unit(intg, k, d), base_of(form));
+    at + w
 }
 
 // Writes the digits of all groups.

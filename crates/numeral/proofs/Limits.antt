@@ -9,8 +9,8 @@ use lib.Dec.{leb, eqb, lit<}
 use lib.ListN.{length, getD, take, drop, replicate}
 use lib.Seq.{take-length}
 use borrow.Author.Tests.{leb-true, eqb-true}
-use Rattle.sizes.specs.Numbers.{Below}
-use Rattle.sizes.proofs.Accept.{both-true}
+use Rattle.groups.specs.Numbers.{Below}
+use Rattle.groups.proofs.Accept.{both-true}
 use Rattle.groups.proofs.Radix.{below-append}
 use Rattle.numeral.specs.Read.{isDigit, run, pointed, wholePart, fractionPart, isText, fewDigits, digitOf, digitsIn, padded, numeralOf, noNumeral, minus, strip, unsigned, readUnsigned, readText}
 use Rattle.numeral.specs.declared.Numeral.{Numeral}

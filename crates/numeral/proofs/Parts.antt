@@ -10,7 +10,7 @@ use lib.Dec.{leb}
 use lib.ListN.{length, take, drop, replicate, length-append, length-map, length-drop}
 use lib.Seq.{take-all, drop-drop, length-take-le}
 use borrow.Author.Tests.{le-leb, lt-leb, leb-true}
-use Rattle.sizes.proofs.Accept.{both-true, is-false}
+use Rattle.groups.proofs.Accept.{both-true, is-false}
 use Rattle.groups.proofs.Store.{join}
 use Rattle.numeral.specs.Read.{run, wholePart, fractionPart, isText, fewDigits, digitOf, digitsIn, padded, noNumeral, readUnsigned}
 use Rattle.numeral.specs.Course.{fractionAt}

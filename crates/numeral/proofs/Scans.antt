@@ -10,7 +10,7 @@ use lib.Dec.{T, eqb}
 use lib.ListN.{length, getD, drop, length-drop, drop-of-length-le}
 use lib.Seq.{drop-cons}
 use borrow.Author.Tests.{eq-eqb, ne-eqb}
-use Rattle.sizes.specs.Numbers.{both}
+use Rattle.groups.specs.Numbers.{both}
 use Rattle.numeral.specs.Read.{strip, unsigned, isDigit, run, pointed}
 use Rattle.numeral.specs.Course.{zeroZero, fractionAt}
 use Rattle.numeral.specs.declared.reader.Fraction.the-variants.{Places, Other}

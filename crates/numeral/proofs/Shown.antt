@@ -10,12 +10,12 @@ use lib.Dec.{eqb, leb, ltb}
 use lib.ListN.{length, getD, take, drop, length-append, length-drop, length-map, take-append-drop}
 use lib.Seq.{take-append-le, drop-append-le, drop-at, length-take-le, take-add, take-take}
 use borrow.Author.Tests.{eq-eqb, ne-eqb, le-leb, lt-ltb, leb-true, ltb-true}
-use Rattle.sizes.specs.Numbers.{both, all, leadingIn}
-use Rattle.sizes.specs.Layout.{side, groupsOf}
-use Rattle.sizes.proofs.Accept.{both-true, is-false, digits-ok}
-use Rattle.sizes.specs.Record.{digitsOk}
+use Rattle.groups.specs.Numbers.{both, all, leadingIn}
+use Rattle.groups.specs.Layout.{side, groupsOf}
+use Rattle.groups.proofs.Accept.{both-true, is-false, digits-ok}
+use Rattle.groups.specs.Write.{digitsOk}
 use Rattle.groups.proofs.Store.{join}
-use Rattle.sizes.proofs.Tab.{all-true, all-each}
+use Rattle.groups.proofs.Tab.{all-true, all-each}
 use Rattle.numeral.specs.Print.{show, unpadded, firstDigits, wholeDigits, fractionText, textOf, areDigits}
 use Rattle.numeral.specs.Course.{DigitsTo}
 

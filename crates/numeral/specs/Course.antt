@@ -5,7 +5,7 @@ use mathlib.Core.Bool.{Bool, false, cond}
 use mathlib.Core.List.{List, [], _∷_}
 use lib.Dec.{eqb}
 use lib.ListN.{length, getD}
-use Rattle.sizes.specs.Numbers.{both}
+use Rattle.groups.specs.Numbers.{both}
 use Rattle.numeral.specs.Read.{run}
 use Rattle.numeral.specs.declared.reader.Fraction.{Fraction}
 use Rattle.numeral.specs.declared.reader.Fraction.the-variants.{Places, Other}

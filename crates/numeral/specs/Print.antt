@@ -6,10 +6,9 @@ use mathlib.Core.List.{List, [], _∷_, _++_, map}
 use lib.Dec.{leb, ltb, eqb}
 use lib.ListN.{length, getD, take, drop}
 use Rattle.refusal.specs.Told.{Told, refusal}
-use Rattle.sizes.specs.Numbers.{both, all}
-use Rattle.sizes.specs.Layout.{side, groupsOf}
-use Rattle.sizes.specs.Record.{digitsOk}
-use Rattle.groups.specs.Write.{roomTold, roomLeaves}
+use Rattle.groups.specs.Numbers.{both, all}
+use Rattle.groups.specs.Layout.{side, groupsOf}
+use Rattle.groups.specs.Write.{digitsOk, roomTold, roomLeaves}
 
 -- the character of a digit
 abbrev pub show : ℕ → ℕ

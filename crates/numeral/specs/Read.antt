@@ -5,7 +5,7 @@ use mathlib.Core.Bool.{Bool, true, false, cond}
 use mathlib.Core.List.{List, [], _∷_, _++_, map}
 use lib.Dec.{leb, eqb}
 use lib.ListN.{length, take, drop, replicate}
-use Rattle.sizes.specs.Numbers.{both}
+use Rattle.groups.specs.Numbers.{both}
 use Rattle.numeral.specs.declared.Numeral.{Numeral}
 
 -- while it begins "00" one zero is removed,

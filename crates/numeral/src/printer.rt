@@ -4,8 +4,8 @@ ghost use mathlib.Core.Path.{_≡_};
 ghost use mathlib.Core.List.{_∷_, _++_, map};
 ghost use Prim.Native.Nat.{_+_, _<_, _≤_};
 ghost use lib.ListN.{length, take, drop};
-ghost use Rattle.sizes.specs.Numbers.{leadingIn};
-ghost use Rattle.sizes.specs.Record.{told};
+ghost use Rattle.groups.specs.Numbers.{leadingIn};
+ghost use Rattle.groups.specs.Write.{told};
 ghost use Rattle.numeral.specs.Print.{show, wholeDigits, fractionText, signText, textOf, areDigits, printTold, printLeaves};
 ghost use Rattle.numeral.specs.Course.{DigitsTo};
 

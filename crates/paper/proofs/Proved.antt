@@ -2,13 +2,11 @@
 -- Assumes nothing.
 use mathlib.Core.Path.{_≡_, refl}
 use mathlib.Core.List.{map}
-use Rattle.sizes.specs.Numbers.{number, digits, tab, leadingIn}
-use Rattle.sizes.specs.Layout.{width, groupsOf, side, digitsAt, offset}
+use Rattle.groups.specs.Numbers.{number, digits, tab, leadingIn}
+use Rattle.groups.specs.Layout.{width, groupsOf, side, digitsAt, offset}
 use Rattle.groups.specs.Packed.{flip, flipFirst, digitsIn}
-use Rattle.sizes.specs.Record.{inRange, unitOf}
-use Rattle.groups.specs.Read.{groupAt, rangeAt, storedAt, groupsIn, readGroups}
-use Rattle.sizes.specs.Record.{digitsOk, wellAt, wellFormed}
-use Rattle.groups.specs.Write.{groupDigits, digitsTo}
+use Rattle.groups.specs.Read.{inRange, groupAt, rangeAt, unitOf, storedAt, groupsIn, readGroups}
+use Rattle.groups.specs.Write.{digitsOk, wellAt, wellFormed, groupDigits, digitsTo}
 use Rattle.numeral.specs.Print.{unpadded, wholeDigits, fractionText}
 use Rattle.decimal.specs.Read.{negative, decimalOf, without, finished, fromGroups, readBin, readPacked}
 use Rattle.decimal.specs.Text.{printed}

@@ -4,7 +4,7 @@ use mathlib.Core.Path.{_≡_, sym, _∙_}
 use mathlib.Core.Bool.{true}
 use native.Mathlib.Omega.{arith}
 use borrow.Author.Tests.{not-true, not-false}
-use Rattle.sizes.proofs.Accept.{well-digits}
+use Rattle.groups.proofs.Accept.{well-digits}
 use Rattle.groups.proofs.Opened.{well-size}
 use Rattle.decimal.specs.Write.{isWell, binSize}
 use borrow.Author.Needs.{needs}

@@ -2,7 +2,7 @@
 -- Assumes nothing.
 use denote.Ref.{now}
 use mathlib.Core.Path.{sym, _∙_, ap}
-use Rattle.sizes.specs.Record.{told}
+use Rattle.groups.specs.Write.{told}
 use Rattle.decimal.proofs.Texts.{refuses, wrote, prints}
 use borrow.Author.Needs.{needs}
 use Rattle.decimal.proofs.Decimal.print.Statement.{statement}

@@ -6,8 +6,8 @@ use mathlib.Core.Path.{_≡_, sym, _∙_, ap}
 use native.Mathlib.Omega.{arith}
 use Rattle.groups.specs.Read.{readGroups}
 use Rattle.groups.specs.declared.Groups.{Groups}
-use Rattle.sizes.specs.declared.Form.{Form}
-use Rattle.sizes.proofs.Accept.{in-range}
+use Rattle.groups.specs.declared.Form.{Form}
+use Rattle.groups.proofs.Accept.{in-range}
 use Rattle.groups.proofs.Opened.{opened}
 use Rattle.decimal.specs.Read.{negative, formOf, accepted, fromGroups, readBin}
 use Rattle.decimal.proofs.Cases.{groups-refused, groups-read}

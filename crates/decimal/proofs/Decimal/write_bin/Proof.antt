@@ -3,7 +3,7 @@
 use denote.Ref.{now}
 use mathlib.Core.Path.{_∙_, ap}
 use Rattle.groups.specs.Write.{writeTold, writeLeaves}
-use Rattle.sizes.specs.declared.Form.{Form}
+use Rattle.groups.specs.declared.Form.{Form}
 use borrow.Author.Needs.{needs}
 use Rattle.decimal.proofs.Decimal.write_bin.Statement.{statement}
 use Rattle.decimal.proofs.Decimal.write_bin.Tie as tie

@@ -6,9 +6,9 @@ use mathlib.Core.Bool.{not}
 use native.Mathlib.Omega.{arith}
 use lib.Dec.{eqb}
 use borrow.Author.Needs.{needs}
-use Rattle.sizes.specs.Numbers.{Below, both}
-use Rattle.sizes.specs.Layout.{groupsOf}
-use Rattle.sizes.proofs.Accept.{well-digits}
+use Rattle.groups.specs.Numbers.{Below, both}
+use Rattle.groups.specs.Layout.{groupsOf}
+use Rattle.groups.proofs.Accept.{well-digits}
 use Rattle.decimal.specs.Value.{magnitude, value}
 use Rattle.decimal.specs.declared.Decimal.{Decimal}
 use Rattle.decimal.proofs.Values.{well-below, below-zero-is, both-neg, neg-pos, pos-neg, both-pos}

@@ -3,7 +3,7 @@
 use Prim.Native.Nat.{_+_, _-_, _*_, _/_}
 use mathlib.Core.Path.{sym, _∙_, ap}
 use borrow.Author.Tests.{eq-eqb, ne-eqb}
-use Rattle.sizes.specs.Layout.{groupsOf}
+use Rattle.groups.specs.Layout.{groupsOf}
 use Rattle.decimal.specs.Read.{decimalOf, without, finished}
 use borrow.Author.Needs.{needs}
 use Rattle.decimal.proofs.reader.finish.Statement.{statement}

@@ -6,7 +6,7 @@ use mathlib.Core.Path.{_≡_}
 use native.Mathlib.Nat.{sub-zero, zero-add}
 use native.Mathlib.Omega.{arith}
 use lib.ListN.{length, drop}
-use Rattle.sizes.specs.Numbers.{leadingIn}
+use Rattle.groups.specs.Numbers.{leadingIn}
 use Rattle.groups.proofs.Trim.{leading-stop, leading-more}
 use Rattle.decimal.proofs.reader.leading.Statement.{statement}
 use Rattle.decimal.proofs.reader.leading.Tie as tie

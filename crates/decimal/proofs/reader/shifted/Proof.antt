@@ -6,7 +6,7 @@ use mathlib.Core.Path.{_≡_, refl}
 use native.Mathlib.Omega.{arith}
 use lib.ListN.{length, getD, length-set}
 use borrow.Author.Count.{below-none}
-use Rattle.sizes.proofs.Tab.{fill-more, filled}
+use Rattle.groups.proofs.Tab.{fill-more, filled}
 use Rattle.decimal.proofs.reader.shifted.Statement.{statement}
 use Rattle.decimal.proofs.reader.shifted.Tie as tie
 

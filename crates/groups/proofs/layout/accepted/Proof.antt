@@ -1,24 +1,22 @@
--- A precision and a scale have a size just where they are in range.
+-- The three tests of the definition, in its order.
 -- Assumes nothing.
-use borrow.Author.Needs.{needs}
-use Rattle.groups.proofs.Counts.{counted-in, refused-out}
+use mathlib.Core.Path.{sym}
+use borrow.Author.Tests.{le-leb, lt-leb}
+use Rattle.groups.specs.Read.{inRange}
 use Rattle.groups.proofs.layout.accepted.Statement.{statement}
 use Rattle.groups.proofs.layout.accepted.Tie as tie
 
-size-requires : tie.Need-size-requires
-size-requires c κs = search needs
-
-enum-told : tie.Need-enum-told
-enum-told c = search needs
-
-enum-told-2 : tie.Need-enum-told-2
-enum-told-2 c = search needs
-
 returns : tie.Need-returns
-returns c = counted-in _ _ _ _ (c .before .before .size .ensures) (c .enum-told .given .1)
+unfolding inRange
+returns c = sym (simp (le-leb _ _ (c .before .if1 .taken), le-leb _ _ (c .if2 .taken)))
 
 returns-2 : tie.Need-returns-2
-returns-2 c = refused-out _ _ _ _ (c .before .before .size .ensures) (c .enum-told2 .given .1)
+unfolding inRange
+returns-2 c = sym (simp (le-leb _ _ (c .before .if1 .taken), lt-leb _ _ (c .if2 .left)))
+
+returns-3 : tie.Need-returns-3
+unfolding inRange
+returns-3 c = sym (simp (lt-leb _ _ (c .if1 .left)))
 
 pub accepted-spec : {M : Type 1} → statement M
-accepted-spec = tie.close (tie.spec size-requires enum-told enum-told-2 returns returns-2)
+accepted-spec = tie.close (tie.spec returns returns-2 returns-3)

@@ -1,31 +1,50 @@
--- These digits are in range, so they have a size and are not refused.
+-- The sum over the groups is four for each whole group and the rest's width, on either side: one test over all sizes.
 -- Assumes what the contract requires, and nothing else.
+use Prim.Native.Nat.{ℕ, _+_, _*_, _/_, _%_}
+use mathlib.Core.Path.{_∙_, ap}
+use Rattle.groups.specs.Layout.{width}
+use Rattle.groups.proofs.Sizes.{closed-size}
 use borrow.Author.Needs.{needs}
-use Rattle.groups.proofs.Counts.{is-count, not-refused}
 use Rattle.groups.proofs.layout.packed_size.Statement.{statement}
 use Rattle.groups.proofs.layout.packed_size.Tie as tie
 
-add-size : tie.Need-add-size
-add-size c = search needs
+mul-result : tie.Need-mul-result
+mul-result c = search needs
 
-size-requires : tie.Need-size-requires
-size-requires c κs = search needs
+width-of-requires : tie.Need-width-of-requires
+width-of-requires c κs = search needs
 
-enum-known-n : tie.Need-enum-known-n
-enum-known-n c = search needs
+add-result : tie.Need-add-result
+add-result c = search needs
 
-enum-told : tie.Need-enum-told
-enum-told c = search needs
+mul-result-2 : tie.Need-mul-result-2
+mul-result-2 c = search needs
+
+width-of-requires-2 : tie.Need-width-of-requires-2
+width-of-requires-2 c κs = search needs
+
+add-result-2 : tie.Need-add-result-2
+add-result-2 c = search needs
+
+add-result-3 : tie.Need-add-result-3
+add-result-3 c = search needs
 
 returns : tie.Need-returns
 returns c =
-    let s = c .before .before .before .before in
-    is-count _ (s .args .intg) (s .args .frac) _ (s .pre .0) (s .pre .1) (c .before .before .before .size .ensures) (c .before .n .given .1)
-
-returns-2 : tie.Need-returns-2
-returns-2 c =
-    let s = c .before .before .before in
-    absurd (not-refused _ (s .args .intg) (s .args .frac) _ (s .pre .0) (s .pre .1) (c .before .before .size .ensures) (c .enum-told .given .1))
+    let a = c .before .before .args in
+    ap (λ (n : ℕ). 4 * (a .intg / 9) + n + (4 * (a .frac / 9) + c .width-of2 .result)) (c .before .width-of .ensures .0)
+    ∙ ap (λ (n : ℕ). 4 * (a .intg / 9) + width (a .intg % 9) + (4 * (a .frac / 9) + n)) (c .width-of2 .ensures .0)
+    ∙ closed-size (a .intg) (a .frac) (search needs) (search needs)
 
 pub packed-size-spec : {M : Type 1} → statement M
-packed-size-spec = tie.close (tie.spec add-size size-requires enum-known-n enum-told returns returns-2)
+packed-size-spec =
+    tie.close
+    (tie.spec
+    mul-result
+    width-of-requires
+    add-result
+    mul-result-2
+    width-of-requires-2
+    add-result-2
+    add-result-3
+    returns)

@@ -2,7 +2,7 @@
 -- Assumes what the contract requires, and nothing else.
 use mathlib.Core.Path.{sym, _∙_}
 use borrow.Author.Needs.{needs}
-use Rattle.sizes.proofs.Sizes.{digits-size, inverted-offset}
+use Rattle.groups.proofs.Sizes.{digits-size, inverted-offset}
 use Rattle.groups.proofs.layout.size_in.Statement.{statement}
 use Rattle.groups.proofs.layout.size_in.Tie as tie
 

@@ -7,10 +7,9 @@ use mathlib.Core.Bool.{true}
 use native.Mathlib.Omega.{arith}
 use lib.ListN.{length}
 use borrow.Author.Tests.{not-true, not-false, le-leb, lt-leb}
-use Rattle.sizes.specs.Layout.{sizeIn}
-use Rattle.sizes.specs.Record.{inRange}
-use Rattle.groups.specs.Read.{readGroups}
-use Rattle.sizes.proofs.Accept.{in-range}
+use Rattle.groups.specs.Layout.{sizeIn}
+use Rattle.groups.specs.Read.{inRange, readGroups}
+use Rattle.groups.proofs.Accept.{in-range}
 use borrow.Author.Needs.{needs}
 use Rattle.groups.proofs.reader.read.Statement.{statement}
 use Rattle.groups.proofs.reader.read.Tie as tie

@@ -8,7 +8,7 @@ use native.Mathlib.Omega.{arith}
 use lib.Dec.{lit≤}
 use lib.ListN.{take, drop}
 use borrow.Author.Needs.{needs}
-use Rattle.sizes.specs.Numbers.{number}
+use Rattle.groups.specs.Numbers.{number}
 use Rattle.groups.specs.Packed.{digitsIn}
 use Rattle.groups.proofs.Radix.{more, byte-more, byte-fits}
 use Rattle.groups.proofs.Marks.{length-in}

@@ -9,12 +9,12 @@ use borrow.Author.Needs.{needs}
 use borrow.Author.Tests.{not-true, not-false}
 use borrow.Author.Count.{below-none, below-more}
 use lib.ListN.{length, getD, length-set}
-use Rattle.sizes.specs.Layout.{offset}
+use Rattle.groups.specs.Layout.{offset}
 use Rattle.groups.specs.Packed.{digitsIn}
 use Rattle.groups.specs.Read.{storedAt, rangeAt, groupsIn}
 use Rattle.groups.specs.declared.reader.One.{One}
 use Rattle.groups.proofs.Places.{one-ok, one-next, one-group}
-use Rattle.sizes.proofs.Tab.{fill-more, filled, all-true, all-false}
+use Rattle.groups.proofs.Tab.{fill-more, filled, all-true, all-false}
 use Rattle.groups.proofs.reader.read_groups.Statement.{statement}
 use Rattle.groups.proofs.reader.read_groups.Tie as tie
 
@@ -32,7 +32,7 @@ loop-holds c = (search needs, (refl, (refl, (below-none _, below-none _))))
 read-one-requires : tie.Need-read-one-requires Inv-loop μ-loop
 read-one-requires c κs =
     let s = c .before .before .before in
-    (c .loop-test .taken, (c .before .loop .inv .1 .1 .0, s .pre .1))
+    ((s .pre .0, c .loop-test .taken), (c .before .loop .inv .1 .1 .0, s .pre .1))
 
 no-groups-requires : tie.Need-no-groups-requires Inv-loop μ-loop
 no-groups-requires c κs = search needs

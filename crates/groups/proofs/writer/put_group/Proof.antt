@@ -7,7 +7,7 @@ use mathlib.Core.List.{_++_}
 use native.Mathlib.Nat.{add-zero, mod-lt}
 use native.Mathlib.Omega.{arith}
 use lib.ListN.{length, take, drop, length-set, take-append-drop}
-use Rattle.sizes.specs.Numbers.{digits}
+use Rattle.groups.specs.Numbers.{digits}
 use Rattle.groups.proofs.Store.{put-more}
 use Rattle.groups.proofs.writer.put_group.Statement.{statement}
 use Rattle.groups.proofs.writer.put_group.Tie as tie

@@ -7,7 +7,7 @@ use mathlib.Core.List.{List, _++_}
 use native.Mathlib.Omega.{arith}
 use borrow.Author.Needs.{needs}
 use lib.ListN.{length, getD, drop}
-use Rattle.sizes.specs.Layout.{offset, wideOf, digitsAt}
+use Rattle.groups.specs.Layout.{offset, wideOf, digitsAt}
 use Rattle.groups.specs.Write.{digitsTo, groupDigits}
 use Rattle.groups.proofs.Places.{within, offset-more}
 use Rattle.groups.proofs.Store.{join, length-to, to-next}
@@ -36,7 +36,7 @@ put-one-requires c κs =
     let s = c .before .before .before .before in
     let l = c .before .before .loop in
     let h = within (s .args .form) (s .args .intg) (s .args .frac) (l .k) (search needs) in
-    omega arith
+    (search needs, omega arith)
 
 add-k : tie.Need-add-k Inv-loop μ-loop
 add-k c = omega arith

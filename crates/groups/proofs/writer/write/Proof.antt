@@ -8,11 +8,10 @@ use native.Mathlib.Omega.{arith}
 use lib.ListN.{length, drop}
 use lib.Seq.{take-at, drop-at}
 use borrow.Author.Tests.{not-true, not-false}
-use Rattle.sizes.specs.Layout.{sizeIn}
-use Rattle.sizes.specs.Record.{wellFormed}
-use Rattle.groups.specs.Write.{digitsTo, written, writeTold, writeLeaves}
-use Rattle.sizes.proofs.Accept.{well-digits}
-use Rattle.sizes.proofs.Sizes.{size-pos}
+use Rattle.groups.specs.Layout.{sizeIn}
+use Rattle.groups.specs.Write.{wellFormed, digitsTo, written, writeTold, writeLeaves}
+use Rattle.groups.proofs.Accept.{well-digits}
+use Rattle.groups.proofs.Sizes.{size-pos}
 use Rattle.groups.proofs.Store.{length-to, length-written}
 use Rattle.groups.proofs.Room.{short, fits}
 use borrow.Author.Needs.{needs}

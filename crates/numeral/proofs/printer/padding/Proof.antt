@@ -7,7 +7,7 @@ use mathlib.Core.Path.{_≡_}
 use native.Mathlib.Nat.{sub-zero, zero-add}
 use native.Mathlib.Omega.{arith}
 use lib.ListN.{drop}
-use Rattle.sizes.specs.Numbers.{leadingIn}
+use Rattle.groups.specs.Numbers.{leadingIn}
 use Rattle.groups.proofs.Trim.{leading-stop, leading-more}
 use Rattle.numeral.proofs.printer.padding.Statement.{statement}
 use Rattle.numeral.proofs.printer.padding.Tie as tie

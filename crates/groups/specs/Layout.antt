@@ -1,0 +1,52 @@
+-- How a decimal's digits go in groups (decimal.c of MySQL; document 01, 'Decimal rules'). Digits go in groups of nine from the point
+-- outwards, so of a side of n digits the j-th group from the point has min 9 (n - 9 * j) of them. A decimal has nine places for groups:
+-- first those of the integral side, the one at the point last, then those of the fraction. A place past the last group has no digits, takes
+-- no bytes and reads as 0, so that every decimal has nine. The bytes of 1234567890.1234 hold the groups 1, 234567890 and 1234; its
+-- record holds 123400000 for the last.
+-- Assumes nothing.
+use Prim.Native.Nat.{ℕ, zero, suc, _+_, _-_, _*_, _/_, min}
+use mathlib.Core.Bool.{cond}
+use lib.Dec.{ltb}
+use Rattle.groups.specs.declared.Form.{Form}
+use Rattle.groups.specs.declared.Form.the-variants.{Plain, Inverted, Digits}
+
+-- the bytes of a group of d digits: of 0 to 9 digits 0, 1, 1, 2, 2, 3, 3, 4, 4, 4
+unfoldable pub width : ℕ → ℕ
+width d = min 4 ((d + 1) / 2)
+
+-- the groups of a side of n digits
+unfoldable pub groupsOf : ℕ → ℕ
+groupsOf n = (n + 8) / 9
+
+-- the digits of the j-th group from the point, of a side of n digits
+unfoldable pub side : ℕ → ℕ → ℕ
+side n j = min 9 (n - 9 * j)
+
+-- the digits of the group at place k, of i integral and f fractional digits
+unfoldable pub digitsAt : ℕ → ℕ → ℕ → ℕ
+digitsAt i f k = cond (ltb k (groupsOf i)) (side i (groupsOf i - 1 - k)) (side f (k - groupsOf i))
+
+-- In the packed forms a group is written in bytes, base 256; as digits it is written a decimal digit to a byte.
+abbrev pub baseOf : Form → ℕ
+baseOf Plain = 256
+baseOf Inverted = 256
+baseOf Digits = 10
+
+-- the bytes of a group of d digits in a form
+abbrev pub wideOf : Form → ℕ → ℕ
+wideOf Plain d = width d
+wideOf Inverted d = width d
+wideOf Digits d = d
+
+-- the bytes before the group at place k
+unfoldable pub offset : Form → ℕ → ℕ → ℕ → ℕ
+offset F i f zero = 0
+offset F i f (suc k) = offset F i f k + wideOf F (digitsAt i f k)
+
+-- the bytes of all groups
+abbrev pub sizeIn : Form → ℕ → ℕ → ℕ
+sizeIn F i f = offset F i f 9
+
+-- a decimal's size is the sum over its groups
+abbrev pub size : ℕ → ℕ → ℕ
+size i f = sizeIn Plain i f

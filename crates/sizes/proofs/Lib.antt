@@ -1,4 +1,0 @@
-pub mod Finite
-pub mod Tab
-pub mod Accept
-pub mod Sizes
