@@ -17,14 +17,12 @@ use Rattle.utf8.specs.Course.{checked}
 use Rattle.utf8.specs.declared.Utf8Check.{Utf8Check}
 use Rattle.value.specs.declared.Span.{Span}
 use Rattle.value.specs.declared.Value.{Value}
-use Rattle.gate.specs.Said.{says}
 use Rattle.events.specs.declared.Event.{Event}
 use Rattle.events.specs.declared.Spot.{Spot}
 use Rattle.events.specs.declared.Walked.the-variants.{Done, Stopped}
 use Rattle.events.specs.Events.{span, kindCode, codeOf, bytesOf, bytesFrom, partOf, extraOf, eventOf, wide}
-use Rattle.events.specs.Text.{isValid, isText, isTextual}
-use Rattle.events.specs.Judged.{bad, good, valueJudged}
-use Rattle.events.specs.Listing.{node, childless}
+use Rattle.events.specs.Text.{isValid, isText}
+use Rattle.events.specs.Listing as listing
 use Rattle.events.specs.Lay.{Laid, laid, put, room, lay}
 
 -- a container's code
@@ -109,29 +107,20 @@ stores-run (a ∷ vs) l i k =
 pub run-of-stores : (l : List ℕ) (i a : ℕ) (vs : List ℕ) → stores (set l i a) i 1 vs ≡ sets l i (a ∷ vs)
 run-of-stores l i a vs = stores-run vs (set l i a) i 1 ∙ ap (λ (j : ℕ). sets (set l i a) j vs) (add-one i)
 
--- one value listed: no text, no room, or put down, which leaves o; b tells whether it is text, k is the room and e the event, as callees give them
-module _ (d : List ℕ) (s : Spot) (x : Value) (out : List ℕ) (n : ℕ) {b : Bool} (be : b ≡ isTextual d x) where
+-- one event laid down: no room, or put, which leaves o; k is the room and e the event, as callees give them
+module _ (s : Spot) (x : Value) (out : List ℕ) (n : ℕ) {k : ℕ} (ke : k ≡ room out) where
   abbrev one : Laid
-  one = lay (node (valueJudged d s (says x)) (s .place) childless) out n
+  one = lay (listing.event (eventOf s x) (s .place) listing.end) out n
 
-  abbrev by : Bool → Laid
-  by t = lay (node (cond t (good (eventOf s x) x) (bad 9 (s .place))) (s .place) childless) out n
+  abbrev fits : Bool → Laid
+  fits y = cond y (laid (Done (n + 1)) (put out n (eventOf s x))) (laid (Stopped 12 (s .place) n) out)
 
-  pub no-text : b ≡ false → one ≡ laid (Stopped 9 (s .place) n) out
+  pub no-room : k ≤ n → one ≡ laid (Stopped 12 (s .place) n) out
   unfolding lay
-  no-text t = ap by (sym be ∙ t)
+  no-room h = ap fits (le-ltb n (room out) (omega arith))
 
-  module _ (t : b ≡ true) {k : ℕ} (ke : k ≡ room out) where
-    abbrev fits : Bool → Laid
-    fits y = cond y (laid (Done (n + 1)) (put out n (eventOf s x))) (laid (Stopped 12 (s .place) n) out)
-
-    pub no-room : k ≤ n → one ≡ laid (Stopped 12 (s .place) n) out
-    unfolding lay
-    no-room h = ap by (sym be ∙ t) ∙ ap fits (le-ltb n (room out) (omega arith))
-
-    pub put-down : {e : Event} {o : List ℕ} → n < k → e ≡ eventOf s x → o ≡ put out n e → one ≡ laid (Done (n + 1)) o
-    unfolding lay
-    put-down h ee oe =
-        ap by (sym be ∙ t)
-        ∙ ap fits (lt-ltb n (room out) (omega arith))
-        ∙ ap (λ (q : List ℕ). laid (Done (n + 1)) q) (sym (oe ∙ ap (put out n) ee))
+  pub put-down : {e : Event} {o : List ℕ} → n < k → e ≡ eventOf s x → o ≡ put out n e → one ≡ laid (Done (n + 1)) o
+  unfolding lay
+  put-down h ee oe =
+      ap fits (lt-ltb n (room out) (omega arith))
+      ∙ ap (λ (q : List ℕ). laid (Done (n + 1)) q) (sym (oe ∙ ap (put out n) ee))

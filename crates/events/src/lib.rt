@@ -9,10 +9,8 @@ ghost use mathlib.Core.Path.{_≡_};
 ghost use Prim.Native.Nat.{_+_, _*_, _≤_};
 ghost use lib.ListN.{length};
 ghost use Rattle.events.specs.Events.{wide as eventWide, kindCode, codeOf, bytesOf, bytesFrom, scalarPart, partOf, scalarExtra, extraOf, eventOf};
-ghost use Rattle.events.specs.Text.{isValid, isText, scalarText, isTextual};
-ghost use Rattle.gate.specs.Said.{says};
-ghost use Rattle.events.specs.Judged.{valueJudged};
-ghost use Rattle.events.specs.Listing.{node, childless};
+ghost use Rattle.events.specs.Text.{isValid, isText};
+ghost use Rattle.events.specs.Listing.{end, event};
 ghost use Rattle.events.specs.Lay.{room, put, lay, laid};
 
 // An event: the type code, the depth, the position, the key's bytes, the value's bytes, and a count or a column type.
@@ -193,27 +191,6 @@ pub fn is_text(doc: &[u8], s: Span) -> bool
     is_valid(utf8::utf8_check(&doc[start..end]))
 }
 
-fn scalar_text(doc: &[u8], s: Scalar) -> bool
-    ensures { λ r. ⌜ r ≡ scalarText (now (doc .entry)) s ⌝ }
-{
-    match s {
-        Scalar::Null => true,
-        Scalar::Boolean(_) => true,
-        Scalar::Number(_) => true,
-        Scalar::String(p) => is_text(doc, p),
-        Scalar::Opaque(_, _) => true,
-    }
-}
-
-fn is_textual(doc: &[u8], x: Value) -> bool
-    ensures { λ r. ⌜ r ≡ isTextual (now (doc .entry)) x ⌝ }
-{
-    match x {
-        Value::Scalar(_, s) => scalar_text(doc, s),
-        Value::Container(_) => true,
-    }
-}
-
 // How many events a list has room for.
 pub fn room_in(out: &[u32]) -> usize
     ensures { λ r. ⌜ r ≡ room (now (out .entry)) ⌝ }
@@ -242,17 +219,10 @@ fn put_event(out: &mut [u32], n: usize, e: Event)
     out[at + 7] = e.extra;
 }
 
-// Lists one value, without what is below it: 9 for a string that is no text, then 12 where there is no room.
-pub fn list_value(doc: &[u8], out: &mut [u32], n: usize, s: Spot, x: Value) -> Walked
-    ensures { λ r. ⌜ lay (node (valueJudged (now (doc .entry)) s (says x)) (s .place) childless) (now (out .entry)) n ≡ laid r (now (out .exit)) ⌝ }
+// Lays down the event of a value: 12 where there is no room.
+pub fn put_value(out: &mut [u32], n: usize, s: Spot, x: Value) -> Walked
+    ensures { λ r. ⌜ lay (event (eventOf s x) (s .place) end) (now (out .entry)) n ≡ laid r (now (out .exit)) ⌝ }
 {
-    if !is_textual(doc, x) {
-        return Walked::Stopped {
-            number: refusal::UTF8,
-            place: s.place,
-            count: n,
-        };
-    }
     if room_in(out) <= n {
         return Walked::Stopped {
             number: refusal::EVENTS,

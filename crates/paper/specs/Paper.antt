@@ -26,7 +26,7 @@ use Rattle.gate.specs.Said.{Said, says, nothing, refuses, readSaid}
 use Rattle.jsonb.specs.Views.{rootRead, elemAt, keyAt}
 use Rattle.events.specs.declared.Walked.{Walked}
 use Rattle.events.specs.declared.Walked.the-variants.{Done, Stopped}
-use Rattle.walk.specs.Shown.{flat, ends, shown}
+use Rattle.walk.specs.Shown.{Answer as Ended, flat, told, ends, shown}
 
 pub data Row : Type 0 where
   -- a packed decimal, with its precision kept or not
@@ -50,7 +50,7 @@ pub data Thing : Type 0 where
   -- where a key stands
   keyed : Span → Thing
   -- the numbers of a walk's events, eight each, and how it ends
-  listed : List ℕ → Walked → Thing
+  listed : List ℕ → Ended → Thing
 
 -- ---- decimals: what one prints, or 26; or what reading it refused
 unfoldable pub prints : Decimal → Said Thing
@@ -108,7 +108,7 @@ joined [] = []
 joined (e ∷ es) = e ++ joined es
 
 abbrev pub lists : List (List ℕ) → Walked → Said Thing
-lists es w = says (listed (joined es) w)
+lists es w = says (listed (joined es) (told w))
 
 -- ---- the documents
 abbrev pub trueAndMinusTwo : List ℕ

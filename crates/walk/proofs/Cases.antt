@@ -22,11 +22,11 @@ use Rattle.jsonb.specs.Views.{rootRead}
 use Rattle.events.specs.declared.Walked.the-variants.{Stopped}
 use Rattle.events.specs.Events.{noKey}
 use Rattle.events.specs.Text.{isText}
-use Rattle.events.specs.Judged.{Judged, Stand, bad, spot, valueJudged, keyJudged, judged}
-use Rattle.events.specs.Listing.{node, childless}
+use Rattle.walk.specs.Judged.{Judged, Stand, bad, spot, valueJudged, keyJudged, judged, node, childless}
 use Rattle.events.specs.Lay.{Laid, laid, lay}
 use Rattle.walk.specs.Paths.{rootStand}
 use Rattle.walk.specs.Course.{entryStand, leadsBy}
+use Rattle.walk.specs.Tested.{keyOf}
 use Rattle.walk.specs.declared.Leads.the-variants.{Array, Object}
 
 -- what a container leads to
@@ -79,40 +79,47 @@ module _ (d : List ℕ) (depth i : ℕ) (s : Stand) (p : ℕ) (out : List ℕ) (
     unfolding lay
     key-no-text t qe = ap by-key ke ∙ ap by-text t ∙ ap (λ (a : ℕ). laid (Stopped 9 a n) out) (sym qe)
 
--- a member; its key y and the key's place q as callees give them
-module _ (d : List ℕ) (v : View) (i depth : ℕ) (out : List ℕ) (n : ℕ) (o : v .kind .object ≡ true) {y : Part} (ye : y ≡ keyRead d v i) where
-  abbrev member : Laid
-  member = own out n (judged d depth i (entryStand d v i)) (placeAt v i)
+-- the key of an entry: a member's is read, an element has none
+module _ (d : List ℕ) (v : View) (i : ℕ) where
+  pub member-key : {p : Part} → v .kind .object ≡ true → p ≡ keyRead d v i → p ≡ keyOf d v i
+  member-key o e = yes _ o e
+
+  pub element-key : v .kind .object ≡ false → part.Bytes noKey ≡ keyOf d v i
+  element-key o = no _ o refl
+
+  key-by : (b : Bool) → partSaid (cond b (keyRead d v i) (part.Bytes noKey)) ≡ cond b (partSaid (keyRead d v i)) (says noKey)
+  key-by true = refl
+  key-by false = refl
+
+  -- it is what stands there
+  pub key-said : partSaid (keyOf d v i) ≡ entryStand d v i .key
+  key-said = key-by (v .kind .object)
+
+-- an entry; its key y and the key's place q as callees give them
+module _ (d : List ℕ) (v : View) (i depth : ℕ) (out : List ℕ) (n : ℕ) {y : Part} (ye : y ≡ keyOf d v i) where
+  abbrev listed : Laid
+  listed = own out n (judged d depth i (entryStand d v i)) (placeAt v i)
 
   key-is : {z : Part} → y ≡ z → entryStand d v i .key ≡ partSaid z
-  key-is yz = sym (yes _ o (ap partSaid (sym yz ∙ ye)))
+  key-is yz = sym (ap partSaid (sym yz ∙ ye) ∙ key-said d v i)
 
-  pub key-refused : {m q : ℕ} → y ≡ part.Refused m → q ≡ keyPlaceAt v i → member ≡ laid (Stopped m q n) out
+  pub key-refused : {m q : ℕ} → y ≡ part.Refused m → q ≡ keyPlaceAt v i → listed ≡ laid (Stopped m q n) out
   unfolding lay
   key-refused {m} yz qe =
       ap (by-key d depth i (entryStand d v i) (placeAt v i) out n) (key-is yz) ∙ ap (λ (a : ℕ). laid (Stopped m a n) out) (sym qe)
 
   module _ {k : Span} (yk : y ≡ part.Bytes k) {b : Bool} (be : b ≡ isText d k) where
-    pub key-bad : {q : ℕ} → b ≡ false → q ≡ keyPlaceAt v i → member ≡ laid (Stopped 9 q n) out
+    pub key-bad : {q : ℕ} → b ≡ false → q ≡ keyPlaceAt v i → listed ≡ laid (Stopped 9 q n) out
     key-bad t qe = key-no-text d depth i (entryStand d v i) (placeAt v i) out n (key-is yk) (sym be ∙ t) qe
 
     pub key-good : {r : Read} {l : Laid} → b ≡ true → r ≡ entryRead d v i →
-        own out n (valueJudged d (spot depth i (placeAt v i) k (valueStart d v i)) (readSaid r)) (placeAt v i) ≡ l → member ≡ l
+        own out n (valueJudged d (spot depth i (placeAt v i) k (valueStart d v i)) (readSaid r)) (placeAt v i) ≡ l → listed ≡ l
     key-good t re e =
         key-text d depth i (entryStand d v i) (placeAt v i) out n (key-is yk) (sym be ∙ t)
         ∙ ap (λ (x : Read). own out n (valueJudged d (spot depth i (placeAt v i) k (valueStart d v i)) (readSaid x)) (placeAt v i)) (sym re)
         ∙ e
 
--- an element has no key
-pub element-listed : (d : List ℕ) (v : View) (i depth : ℕ) (out : List ℕ) (n : ℕ) {r : Read} {l : Laid} → v .kind .object ≡ false → r ≡ entryRead d v i →
-    own out n (valueJudged d (spot depth i (placeAt v i) noKey (valueStart d v i)) (readSaid r)) (placeAt v i) ≡ l →
-    own out n (judged d depth i (entryStand d v i)) (placeAt v i) ≡ l
-element-listed d v i depth out n o re e =
-    key-text d depth i (entryStand d v i) (placeAt v i) out n (sym (no (partSaid (keyRead d v i)) o refl)) (no-key-text d)
-    ∙ ap (λ (x : Read). own out n (valueJudged d (spot depth i (placeAt v i) noKey (valueStart d v i)) (readSaid x)) (placeAt v i)) (sym re)
-    ∙ e
-
--- the root has none either; its own first byte f as the callee gives it
+-- the root has no key; its own first byte f as the callee gives it
 module _ (d : List ℕ) where
   pub root-empty : length d ≡ 0 → 0 ≡ rootStand d .from
   root-empty e = yes _ (eq-eqb (length d) 0 e) refl

@@ -18,10 +18,10 @@ use Rattle.entry.specs.Entries.{placeAt, entryRead}
 use Rattle.gate.specs.Said.{readSaid}
 use Rattle.events.specs.declared.Walked.{Walked}
 use Rattle.events.specs.declared.Walked.the-variants.{Done, Stopped}
-use Rattle.events.specs.Judged.{judged}
-use Rattle.events.specs.Listing.{Listing, _then_, entries, node, childless}
+use Rattle.walk.specs.Judged.{judged, node, childless}
+use Rattle.events.specs.Listing.{Listing}
+use Rattle.walk.specs.Course.{_then_, entries, entryStand, entryListing, children}
 use Rattle.events.specs.Lay.{Laid, laid, lay}
-use Rattle.walk.specs.Course.{entryStand, entryListing, children}
 use Rattle.walk.proofs.Node.{next, lay-then, below, apart}
 
 -- with l levels left, the walk of v began at event n₀ with the list out₀, and stands before entry i, at event n, with the list out

@@ -2,7 +2,7 @@
 -- Assumes nothing.
 use mathlib.Core.Path.{_≡_, refl, sym, ap, _∙_}
 use mathlib.Core.Bool.{Bool, true, false, cond}
-use mathlib.Core.List.{List, [], _++_, append-assoc}
+use mathlib.Core.List.{List, [], _∷_, _++_, append-assoc}
 use Prim.Native.Nat.{ℕ, zero, suc, _+_, _*_, _-_, _/_, _≤_}
 use native.Mathlib.Omega.{arith}
 use lib.ListN.{length, drop, length-append, length-drop}
@@ -11,11 +11,33 @@ use lib.Dec.{ltb}
 use borrow.Author.Tests.{ltb-true, le-ltb, lt-ltb}
 use Rattle.events.specs.declared.Event.{Event}
 use Rattle.events.specs.declared.Walked.{Walked}
-use Rattle.events.specs.declared.Walked.the-variants.{Stopped}
+use Rattle.events.specs.declared.Walked.the-variants.{Done, Stopped}
 use Rattle.events.specs.Events.{numbers, wide}
 use Rattle.events.specs.Listing.{Listing, end, fault, event}
 use Rattle.events.specs.Lay.{Laid, laid, lay, put, room}
-use Rattle.walk.specs.Shown.{cut, flat, ends, over}
+use Rattle.walk.specs.Shown.{cut, flat, Answer, told, ends, over}
+
+-- ---- how a listing ends, as a case of the code's answer
+unfoldable pub walked : Listing → ℕ → Walked
+walked end n = Done n
+walked (fault f p) n = Stopped f p n
+walked (event e p l) n = walked l (n + 1)
+
+pub walked-told : (l : Listing) (n : ℕ) → told (walked l n) ≡ ends l n
+unfolding walked ends
+walked-told end n = refl
+walked-told (fault f p) n = refl
+walked-told (event e p l) n = walked-told l (n + 1)
+
+-- answers that are told alike are equal
+pub told-same : (r q : Walked) → told r ≡ told q → r ≡ q
+told-same (Done n) (Done m) e = let h : n ∷ [] ≡ m ∷ [] = ap (λ (a : Answer). a .values) e in cc
+told-same (Stopped f p n) (Stopped g q m) e =
+    let i : f ≡ g = ap (λ (a : Answer). a .number) e in
+    let h : p ∷ n ∷ [] ≡ q ∷ m ∷ [] = ap (λ (a : Answer). a .values) e in
+    cc
+told-same (Done n) (Stopped g q m) e = let h : _≡_ {A = ℕ} 1 2 = ap (λ (a : Answer). length (a .values)) e in absurd (omega arith)
+told-same (Stopped f p n) (Done m) e = let h : _≡_ {A = ℕ} 2 1 = ap (λ (a : Answer). length (a .values)) e in absurd (omega arith)
 
 -- ---- room
 -- there is room for the events that fit, and it depends on the length alone
@@ -56,7 +78,7 @@ rest front vs fs back =
 -- ---- what a listing is laid to, after a front of n events and with room for k more
 abbrev Shows : Listing → Type 0
 Shows l = (front back : List ℕ) (n k : ℕ) → length front ≡ wide * n → room (front ++ back) ≡ n + k →
-    lay l (front ++ back) n ≡ laid (ends (cut l k) n) (front ++ over (cut l k) back)
+    lay l (front ++ back) n ≡ laid (walked (cut l k) n) (front ++ over (cut l k) back)
 
 module _ (l : Listing) (ih : Shows l) (e : Event) (p : ℕ) (front back : List ℕ) (n : ℕ) (fe : length front ≡ wide * n) where
   abbrev out : List ℕ
@@ -65,8 +87,8 @@ module _ (l : Listing) (ih : Shows l) (e : Event) (p : ℕ) (front back : List �
   abbrev by : Bool → Laid
   by b = cond b (lay l (put out n e) (n + 1)) (laid (Stopped 12 p n) out)
 
-  one : (k : ℕ) → room out ≡ n + k → lay (event e p l) out n ≡ laid (ends (cut (event e p l) k) n) (front ++ over (cut (event e p l) k) back)
-  unfolding lay cut flat ends over
+  one : (k : ℕ) → room out ≡ n + k → lay (event e p l) out n ≡ laid (walked (cut (event e p l) k) n) (front ++ over (cut (event e p l) k) back)
+  unfolding lay cut flat walked over
   one zero r = ap by (le-ltb n (room out) (omega arith))
   one (suc k) r =
       let a : length out ≡ length front + length back = length-append front back in
@@ -80,20 +102,20 @@ module _ (l : Listing) (ih : Shows l) (e : Event) (p : ℕ) (front back : List �
       ap by (lt-ltb n (room out) (omega arith))
       ∙ ap (λ (o : List ℕ). lay l o (n + 1)) (put-after front back n e fe h)
       ∙ ih (front ++ numbers e) (drop wide back) (n + 1) k (omega arith) (omega arith)
-      ∙ ap (λ (o : List ℕ). laid (ends (cut l k) (n + 1)) o) (rest front (numbers e) (flat (cut l k)) back)
+      ∙ ap (λ (o : List ℕ). laid (walked (cut l k) (n + 1)) o) (rest front (numbers e) (flat (cut l k)) back)
 
 laid-after : (l : Listing) → Shows l
-unfolding lay cut flat ends over
+unfolding lay cut flat walked over
 laid-after end front back n k p r = refl
 laid-after (fault f q) front back n k p r = refl
 laid-after (event e q l) front back n k p r = one l (laid-after l) e q front back n p k r
 
 -- ---- from the first event on
-pub lay-shown : (l : Listing) (out : List ℕ) → lay l out 0 ≡ laid (ends (cut l (room out)) 0) (over (cut l (room out)) out)
+pub lay-shown : (l : Listing) (out : List ℕ) → lay l out 0 ≡ laid (walked (cut l (room out)) 0) (over (cut l (room out)) out)
 lay-shown l out = laid-after l [] out 0 (room out) refl (omega arith)
 
-pub laid-answer : (l : Listing) (out : List ℕ) {r : Walked} {left : List ℕ} → lay l out 0 ≡ laid r left → r ≡ ends (cut l (room out)) 0
-laid-answer l out e = cc (lay-shown l out)
+pub laid-answer : (l : Listing) (out : List ℕ) {r : Walked} {left : List ℕ} → lay l out 0 ≡ laid r left → told r ≡ ends (cut l (room out)) 0
+laid-answer l out {r} e = let h : r ≡ walked (cut l (room out)) 0 = cc (lay-shown l out) in ap told h ∙ walked-told (cut l (room out)) 0
 
 pub laid-leaves : (l : Listing) (out : List ℕ) {r : Walked} {left : List ℕ} → lay l out 0 ≡ laid r left → left ≡ over (cut l (room out)) out
 laid-leaves l out e = cc (lay-shown l out)

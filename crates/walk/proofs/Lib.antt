@@ -5,3 +5,4 @@ pub mod Laid
 pub mod Whole
 pub mod Scan
 pub mod Bridge
+mod Tested

@@ -21,11 +21,11 @@ use Rattle.events.specs.declared.Walked.{Walked}
 use Rattle.events.specs.declared.Walked.the-variants.{Done, Stopped}
 use Rattle.events.specs.Events.{eventOf}
 use Rattle.events.specs.Text.{isText, isTextual}
-use Rattle.events.specs.Judged.{Stand, Judged, bad, good, spot, valueJudged, keyJudged, judged}
-use Rattle.events.specs.Listing.{Listing, end, fault, event, _then_, entries, node, childless}
+use Rattle.walk.specs.Judged.{Stand, Judged, bad, good, spot, valueJudged, keyJudged, judged, node, childless}
+use Rattle.events.specs.Listing.{Listing, end, fault, event}
+use Rattle.walk.specs.Course.{_then_, entries, children, listing, leadsBy, leadsOf, leadsTo}
 use Rattle.events.specs.Lay.{Laid, laid, lay, put, room}
 use Rattle.walk.specs.Paths.{rootStand}
-use Rattle.walk.specs.Course.{children, listing, leadsBy, leadsOf, leadsTo}
 use Rattle.walk.specs.declared.Leads.{Leads}
 use Rattle.walk.specs.declared.Leads.the-variants.{Array, Object, Nothing}
 

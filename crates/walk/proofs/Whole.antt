@@ -51,7 +51,7 @@ use Rattle.gate.specs.Before.{names, matches, gated, Whole, gateOf}
 use Rattle.gate.specs.declared.Gate.the-variants.{Open}
 use Rattle.gate.proofs.Gates.{open-whole, whole-entry, whole-key}
 use Rattle.events.specs.Events.{noKey}
-use Rattle.events.specs.Judged.{Stand}
+use Rattle.walk.specs.Judged.{Stand}
 use Rattle.walk.specs.Paths.{rootStand, child, viewIn, countIn}
 use Rattle.walk.specs.Course.{entryStand}
 

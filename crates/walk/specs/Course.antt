@@ -14,9 +14,22 @@ use Rattle.walk.specs.declared.Leads.the-variants.{Array, Object, Nothin
 use Rattle.entry.specs.Entries.{placeAt, keyPlaceAt, entryRead, keyRead, valueStart}
 use Rattle.gate.specs.Said.{says, readSaid, partSaid}
 use Rattle.events.specs.Events.{noKey}
-use Rattle.events.specs.Judged.{Stand, judged}
-use Rattle.events.specs.Listing.{Listing, fault, entries, node}
+use Rattle.walk.specs.Judged.{Stand, judged, node}
+use Rattle.events.specs.Listing.{Listing, end, fault, event}
 use Rattle.walk.specs.Paths.{rootStand, viewOf, countOf}
+
+-- ---- listings one after the other
+-- one listing and then another, which a fault keeps from coming
+unfoldable pub _then_ : Listing → Listing → Listing
+end then m = m
+fault n p then m = fault n p
+event e p l then m = event e p (l then m)
+
+infixr 50 _then_
+-- k entries, from entry i on
+unfoldable pub entries : (ℕ → Listing) → ℕ → ℕ → Listing
+entries f zero i = end
+entries f (suc k) i = f i then entries f k (suc i)
 
 abbrev pub entryStand : List ℕ → View → ℕ → Stand
 entryStand d v i =

@@ -25,10 +25,23 @@ flat end = []
 flat (fault r p) = []
 flat (event e p l) = numbers e ++ flat l
 
--- how it ends, after n events before it
-unfoldable pub ends : Listing → ℕ → Walked
-ends end n = Done n
-ends (fault r p) n = Stopped r p n
+-- an answer by document 01's number and values
+pub record Answer : Type 0 where
+  pub number : ℕ
+  pub values : List ℕ
+
+abbrev pub answered : ℕ → List ℕ → Answer
+answered f vs = record { number = f; values = vs }
+
+-- the cases of the walk's answer: 0 and the count, or the refusal's number, its place and the count
+abbrev pub told : Walked → Answer
+told (Done n) = answered 0 (n ∷ [])
+told (Stopped f p n) = answered f (p ∷ n ∷ [])
+
+-- how a listing ends, after n events before it
+unfoldable pub ends : Listing → ℕ → Answer
+ends end n = answered 0 (n ∷ [])
+ends (fault f p) n = answered f (p ∷ n ∷ [])
 ends (event e p l) n = ends l (n + 1)
 
 -- what is left of a list that a listing was written over
@@ -39,7 +52,7 @@ over l out = flat l ++ drop (length (flat l)) out
 unfoldable pub shown : List ℕ → ℕ → Listing
 shown d k = cut (scan d (paths d)) k
 
--- the promise of the walk
+-- the promise of the walk: its answer, and what it leaves in the lent list. Room is the list's length divided by eight, rounded down, at most 4,294,967,295
 pub record Walks (d out : List ℕ) (r : Walked) (left : List ℕ) : Type 0 where
-  pub answer : r ≡ ends (shown d (room out)) 0
+  pub answer : told r ≡ ends (shown d (room out)) 0
   pub leaves : left ≡ over (shown d (room out)) out

@@ -3,6 +3,7 @@ use content::Part;
 use content::Read;
 use events::Spot;
 pub use events::Walked;
+use value::Scalar;
 use value::Span;
 use value::Value;
 use value::View;
@@ -12,12 +13,13 @@ ghost use Prim.Native.Nat.{_≤_};
 ghost use Rattle.value.specs.declared.Value.the-variants.{Container};
 ghost use Rattle.entry.specs.Entries.{entryRead, placeAt, valueStart};
 ghost use Rattle.jsonb.specs.Views.{rootRead};
-ghost use Rattle.gate.specs.Said.{readSaid};
-ghost use Rattle.events.specs.Judged.{spot, valueJudged, judged};
-ghost use Rattle.events.specs.Listing.{node, childless};
+ghost use Rattle.gate.specs.Said.{says, readSaid};
+ghost use Rattle.events.specs.Text.{isText};
+ghost use Rattle.walk.specs.Judged.{spot, valueJudged, judged, node, childless};
 ghost use Rattle.events.specs.Lay.{lay, laid};
 ghost use Rattle.walk.specs.Paths.{rootStand};
 ghost use Rattle.walk.specs.Course.{entryStand, children, leadsBy, leadsOf, leadsTo};
+ghost use Rattle.walk.specs.Tested.{stringIn, stringOf, keyOf, keyIn, textIn, Tested, Listed};
 ghost use Rattle.walk.specs.Shown.{Walks};
 
 // What a value leads to: the elements of an array, the members of an object, or nothing.
@@ -25,6 +27,19 @@ pub enum Leads {
     Array(View),
     Object(View),
     Nothing,
+}
+
+// The key and the string that were tested last: neighbours may share them, and what was tested need not be tested again.
+struct Known {
+    key: Span,
+    text: Span,
+}
+
+// What the listing of one entry came to, what its value leads to, and the texts that are known after it.
+struct Child {
+    own: Walked,
+    leads: Leads,
+    known: Known,
 }
 
 fn leads_by(v: View) -> Leads
@@ -55,6 +70,57 @@ fn leads_to(r: Read) -> Leads
     }
 }
 
+// The string of a scalar; of another, one that is known.
+fn string_in(s: Scalar, known: Span) -> Span
+    ensures { λ r. ⌜ r ≡ stringIn s known ⌝ }
+{
+    match s {
+        Scalar::Null => known,
+        Scalar::Boolean(_) => known,
+        Scalar::Number(_) => known,
+        Scalar::String(p) => p,
+        Scalar::Opaque(_, _) => known,
+    }
+}
+
+fn string_of(x: Value, known: Span) -> Span
+    ensures { λ r. ⌜ r ≡ stringOf x known ⌝ }
+{
+    match x {
+        Value::Scalar(_, s) => string_in(s, known),
+        Value::Container(_) => known,
+    }
+}
+
+// Whether a part is UTF-8, where another is known to be: what was tested is not tested again.
+fn is_known_text(doc: &[u8], known: Span, s: Span) -> bool
+    requires { ⌜ isText (now doc) known ≡ true ⌝ }
+    ensures { λ r. ⌜ r ≡ isText (now (doc .entry)) s ⌝ }
+{
+    if s.start == known.start {
+        if s.len == known.len {
+            return true;
+        }
+    }
+    events::is_text(doc, s)
+}
+
+// Lists one value, without what is below it: 9 for a string that is no text, then 12 where there is no room.
+fn list_value(doc: &[u8], out: &mut [u32], n: usize, s: Spot, x: Value, known: Span) -> Walked
+    requires { ⌜ isText (now doc) known ≡ true ⌝ }
+    ensures { λ r. ⌜ lay (node (valueJudged (now (doc .entry)) s (says x)) (s .place) childless) (now (out .entry)) n ≡ laid r (now (out .exit)) ⌝ }
+{
+    let text = string_of(x, known);
+    if !is_known_text(doc, known, text) {
+        return Walked::Stopped {
+            number: refusal::UTF8,
+            place: s.place,
+            count: n,
+        };
+    }
+    events::put_value(out, n, s, x)
+}
+
 // Lists entry i of a container, whose value was read, under a key.
 fn list_entry(
     doc: &[u8],
@@ -65,13 +131,14 @@ fn list_entry(
     depth: u32,
     key: Span,
     r: Read,
+    known: Span,
 ) -> Walked
-    requires { ⌜ r ≡ entryRead (now doc) v i ⌝ }
+    requires { ⌜ (r ≡ entryRead (now doc) v i) × (isText (now doc) known ≡ true) ⌝ }
     ensures { λ w. ⌜ lay (node (valueJudged (now (doc .entry)) (spot depth i (placeAt v i) key (valueStart (now (doc .entry)) v i)) (readSaid r)) (placeAt v i) childless) (now (out .entry)) n ≡ laid w (now (out .exit)) ⌝ }
 {
     let place = entry::value_place(v, i);
     match r {
-        Read::Value(x) => events::list_value(
+        Read::Value(x) => list_value(
             doc,
             out,
             n,
@@ -83,6 +150,7 @@ fn list_entry(
                 from: entry::value_start(doc, v, i) as u32,
             },
             x,
+            known,
         ),
         Read::Refused(number) => Walked::Stopped {
             number,
@@ -92,30 +160,43 @@ fn list_entry(
     }
 }
 
-// Lists member i of an object: its key 5, its key 9, then its value.
-fn list_member(
+// The key of entry i: an element of an array has none.
+fn key_of(doc: &[u8], v: View, i: u32) -> Part
+    ensures { λ r. ⌜ r ≡ keyOf (now (doc .entry)) v i ⌝ }
+{
+    let k = v.kind;
+    if k.object {
+        return entry::read_key(doc, v, i);
+    }
+    Part::Bytes(Span { start: 0, len: 0 })
+}
+
+// Lists entry i of a container, whose key and value were read: the key's 5, the key's 9, then the value.
+fn list_by_key(
     doc: &[u8],
     out: &mut [u32],
     n: usize,
     v: View,
     i: u32,
     depth: u32,
+    p: Part,
     r: Read,
+    known: Known,
 ) -> Walked
-    requires { ⌜ (r ≡ entryRead (now doc) v i) × (v .kind .object ≡ true) ⌝ }
+    requires { ⌜ (p ≡ keyOf (now doc) v i) × (r ≡ entryRead (now doc) v i) × Tested (now doc) known ⌝ }
     ensures { λ w. ⌜ lay (node (judged (now (doc .entry)) depth i (entryStand (now (doc .entry)) v i)) (placeAt v i) childless) (now (out .entry)) n ≡ laid w (now (out .exit)) ⌝ }
 {
     let place = entry::key_place(v, i);
-    match entry::read_key(doc, v, i) {
+    match p {
         Part::Bytes(key) => {
-            if !events::is_text(doc, key) {
+            if !is_known_text(doc, known.key, key) {
                 return Walked::Stopped {
                     number: refusal::UTF8,
                     place,
                     count: n,
                 };
             }
-            list_entry(doc, out, n, v, i, depth, key, r)
+            list_entry(doc, out, n, v, i, depth, key, r, known.text)
         }
         Part::Refused(number) => Walked::Stopped {
             number,
@@ -125,32 +206,48 @@ fn list_member(
     }
 }
 
-// Lists element i of an array, which has no key.
-fn list_element(
+fn key_in(p: Part, known: Span) -> Span
+    ensures { λ r. ⌜ r ≡ keyIn p known ⌝ }
+{
+    match p {
+        Part::Bytes(key) => key,
+        Part::Refused(_) => known,
+    }
+}
+
+fn text_in(r: Read, known: Span) -> Span
+    ensures { λ s. ⌜ s ≡ textIn r known ⌝ }
+{
+    match r {
+        Read::Value(x) => string_of(x, known),
+        Read::Refused(_) => known,
+    }
+}
+
+// Lists entry i of a container. Both walkers call it, so that what it needs is not on their stack, level for level.
+fn list_child(
     doc: &[u8],
     out: &mut [u32],
     n: usize,
     v: View,
     i: u32,
     depth: u32,
-    r: Read,
-) -> Walked
-    requires { ⌜ (r ≡ entryRead (now doc) v i) × (v .kind .object ≡ false) ⌝ }
-    ensures { λ w. ⌜ lay (node (judged (now (doc .entry)) depth i (entryStand (now (doc .entry)) v i)) (placeAt v i) childless) (now (out .entry)) n ≡ laid w (now (out .exit)) ⌝ }
+    known: Known,
+) -> Child
+    requires { ⌜ Tested (now doc) known ⌝ }
+    ensures { λ c. ⌜ Listed (now (doc .entry)) v i depth (now (out .entry)) n c (now (out .exit)) ⌝ }
 {
-    list_entry(doc, out, n, v, i, depth, Span { start: 0, len: 0 }, r)
-}
-
-// Lists entry i of a container. Both walkers call it, so that what it needs is not on their stack, level for level.
-fn list_child(doc: &[u8], out: &mut [u32], n: usize, v: View, i: u32, depth: u32, r: Read) -> Walked
-    requires { ⌜ r ≡ entryRead (now doc) v i ⌝ }
-    ensures { λ w. ⌜ lay (node (judged (now (doc .entry)) depth i (entryStand (now (doc .entry)) v i)) (placeAt v i) childless) (now (out .entry)) n ≡ laid w (now (out .exit)) ⌝ }
-{
-    let k = v.kind;
-    if k.object {
-        return list_member(doc, out, n, v, i, depth, r);
+    let p = key_of(doc, v, i);
+    let r = entry::read_entry(doc, v, i);
+    let own = list_by_key(doc, out, n, v, i, depth, p, r, known);
+    Child {
+        own,
+        leads: leads_to(r),
+        known: Known {
+            key: key_in(p, known.key),
+            text: text_in(r, known.text),
+        },
     }
-    list_element(doc, out, n, v, i, depth, r)
 }
 
 // Lists the elements of an array.
@@ -160,6 +257,10 @@ fn walk_array(doc: &[u8], out: &mut [u32], from: usize, view: View, levels: u32)
 {
     let mut n = from;
     let mut i: u32 = 0;
+    let mut known = Known {
+        key: Span { start: 0, len: 0 },
+        text: Span { start: 0, len: 0 },
+    };
     let count = view.count;
     while i < count {
         if levels == 0 {
@@ -169,12 +270,13 @@ fn walk_array(doc: &[u8], out: &mut [u32], from: usize, view: View, levels: u32)
                 count: n,
             };
         }
-        let r = entry::read_entry(doc, view, i);
-        let own = list_child(doc, out, n, view, i, 101 - levels, r);
+        let c = list_child(doc, out, n, view, i, 101 - levels, known);
+        let own = c.own;
         let Walked::Done { count: m } = own else {
             return own;
         };
-        let w = match leads_to(r) {
+        let leads = c.leads;
+        let w = match leads {
             Leads::Array(u) => walk_array(doc, out, m, u, levels - 1),
             Leads::Object(u) => walk_object(doc, out, m, u, levels - 1),
             Leads::Nothing => Walked::Done { count: m },
@@ -182,6 +284,7 @@ fn walk_array(doc: &[u8], out: &mut [u32], from: usize, view: View, levels: u32)
         let Walked::Done { count: k } = w else {
             return w;
         };
+        known = c.known;
         n = k;
         i += 1;
     }
@@ -195,6 +298,10 @@ fn walk_object(doc: &[u8], out: &mut [u32], from: usize, view: View, levels: u32
 {
     let mut n = from;
     let mut i: u32 = 0;
+    let mut known = Known {
+        key: Span { start: 0, len: 0 },
+        text: Span { start: 0, len: 0 },
+    };
     let count = view.count;
     while i < count {
         if levels == 0 {
@@ -204,12 +311,13 @@ fn walk_object(doc: &[u8], out: &mut [u32], from: usize, view: View, levels: u32
                 count: n,
             };
         }
-        let r = entry::read_entry(doc, view, i);
-        let own = list_child(doc, out, n, view, i, 101 - levels, r);
+        let c = list_child(doc, out, n, view, i, 101 - levels, known);
+        let own = c.own;
         let Walked::Done { count: m } = own else {
             return own;
         };
-        let w = match leads_to(r) {
+        let leads = c.leads;
+        let w = match leads {
             Leads::Array(u) => walk_array(doc, out, m, u, levels - 1),
             Leads::Object(u) => walk_object(doc, out, m, u, levels - 1),
             Leads::Nothing => Walked::Done { count: m },
@@ -217,6 +325,7 @@ fn walk_object(doc: &[u8], out: &mut [u32], from: usize, view: View, levels: u32
         let Walked::Done { count: k } = w else {
             return w;
         };
+        known = c.known;
         n = k;
         i += 1;
     }
@@ -238,7 +347,7 @@ fn list_root(doc: &[u8], out: &mut [u32], r: Read) -> Walked
     ensures { λ w. ⌜ lay (node (judged (now (doc .entry)) 0 0 (rootStand (now (doc .entry)))) 0 childless) (now (out .entry)) 0 ≡ laid w (now (out .exit)) ⌝ }
 {
     match r {
-        Read::Value(x) => events::list_value(
+        Read::Value(x) => list_value(
             doc,
             out,
             0,
@@ -250,6 +359,7 @@ fn list_root(doc: &[u8], out: &mut [u32], r: Read) -> Walked
                 from: root_start(doc),
             },
             x,
+            Span { start: 0, len: 0 },
         ),
         Read::Refused(number) => Walked::Stopped {
             number,

@@ -17,7 +17,7 @@ use Rattle.jsonb.specs.Views.{rootRead}
 use Rattle.events.specs.declared.Walked.{Walked}
 use Rattle.events.specs.declared.Walked.the-variants.{Done, Stopped}
 use Rattle.events.specs.Events.{noKey, wide}
-use Rattle.events.specs.Judged.{Stand}
+use Rattle.walk.specs.Judged.{Stand}
 use Rattle.events.specs.Lay.{room}
 use Rattle.walk.specs.Paths.{rootStand, child, viewIn, countIn, here, down, Item, item, under, gather, tree, paths}
 use Rattle.walk.specs.Shown.{Walks}
@@ -107,19 +107,19 @@ pub done-count : (d out : List ℕ) (n : ℕ) (left : List ℕ) → Walks d out 
 done-count d out n left w xs v = listing d out n left w xs v .count
 
 pub stopped-count : (d out : List ℕ) (f p n : ℕ) (left : List ℕ) → Walks d out (Stopped f p n) left → (xs : List Item) → UpTo101 d xs →
-    (n < length xs) × (n ≤ room out)
+    (h : Halt d xs (room out) f p n) × (n ≡ length (h .before)) × (n < length xs) × (n ≤ room out)
 stopped-count d out f p n left w xs v =
     let h = refusal d out (Stopped f p n) left w xs v f p n .0 refl in
     let e : length xs ≡ length (h .before ++ h .at ∷ h .after) = ap length (h .split) in
     let s : length (h .before ++ h .at ∷ h .after) ≡ length (h .before) + length (h .at ∷ h .after) = length-append (h .before) (h .at ∷ h .after) in
     let c = h .count in
     let l = stop-room d (h .stops) in
-    (omega arith, omega arith)
+    (h, c, omega arith, omega arith)
 
--- ---- paths that lead to one place, as where offsets or keys are the same, are different paths and each is listed
-pub shared-bytes : (d : List ℕ) (xs : List Item) → Everything d xs → (π ρ : List ℕ) (s : Stand) → Leads d π s → Leads d ρ s → (π ≡ ρ → ⊥) →
-    List·Memᴰ (item π s) xs × (List·Memᴰ (item ρ s) xs × (item π s ≡ item ρ s → ⊥))
-shared-bytes d xs v π ρ s a b n = (v .all a tt, (v .all b tt, λ e. n (ap (λ (x : Item). x .path) e)))
+-- ---- different paths are both listed, whatever bytes, keys or values they share
+pub shared-bytes : (d : List ℕ) (xs : List Item) → Everything d xs → (π ρ : List ℕ) (s t : Stand) → Leads d π s → Leads d ρ t → (π ≡ ρ → ⊥) →
+    List·Memᴰ (item π s) xs × (List·Memᴰ (item ρ t) xs × (item π s ≡ item ρ t → ⊥))
+shared-bytes d xs v π ρ s t a b n = (v .all a tt, (v .all b tt, λ e. n (ap (λ (x : Item). x .path) e)))
 
 -- ---- a document above the length limit is refused at once, and the lent list is as it was
 module _ (d : List ℕ) (h : 16777216 < length d) where

@@ -23,7 +23,7 @@ use Rattle.jsonb.specs.Views.{rootRead}
 use Rattle.events.specs.declared.Spot.{Spot}
 use Rattle.events.specs.Events.{noKey, eventOf}
 use Rattle.events.specs.Text.{isText, isTextual}
-use Rattle.events.specs.Judged.{Stand, Judged, bad, good, spot, valueJudged, keyJudged, judged}
+use Rattle.walk.specs.Judged.{Stand, Judged, bad, good, spot, valueJudged, keyJudged, judged}
 use Rattle.walk.specs.Paths.{viewIn, Below, here, down, Item, lastOf, said}
 use Rattle.walk.specs.Course.{entryStand}
 use Rattle.walk.proofs.Whole.{SaidStands, root-stands, elem-stands, entry-child}

@@ -7,10 +7,11 @@ use Prim.Native.Nat.{ℕ, zero, suc, _+_, _*_, _-_, _≤_}
 use native.Mathlib.Omega.{arith}
 use lib.ListN.{length, drop, length-append}
 use Rattle.events.specs.Events.{numbers, wide}
-use Rattle.events.specs.Judged.{Judged}
-use Rattle.events.specs.Listing.{Listing, end, fault, event, node}
+use Rattle.walk.specs.Judged.{Judged, node}
+use Rattle.events.specs.Listing.{Listing, end, fault, event}
 use Rattle.walk.specs.Paths.{Item, scan}
-use Rattle.walk.specs.Shown.{cut, flat, ends, over}
+use Rattle.walk.specs.Shown.{cut, flat, over}
+use Rattle.walk.proofs.Laid.{walked}
 use Rattle.walk_laws.specs.Promise.{eventAt, eventsOf, written, Good, Wrong, StopsAt, wrong, full, Halt}
 use Rattle.walk_laws.proofs.Judge.{Answered, verdict, good-said, wrong-said}
 
@@ -19,10 +20,10 @@ pub chain : List Item → Listing → Listing
 chain [] l = l
 chain (x ∷ xs) l = event (eventAt x) (x .stand .place) (chain xs l)
 
-pub chain-ends : (xs : List Item) (l : Listing) (n : ℕ) → ends (chain xs l) n ≡ ends l (n + length xs)
-unfolding chain ends
-chain-ends [] l n = ap (ends l) (omega arith)
-chain-ends (x ∷ xs) l n = chain-ends xs l (n + 1) ∙ ap (ends l) (omega arith)
+pub chain-ends : (xs : List Item) (l : Listing) (n : ℕ) → walked (chain xs l) n ≡ walked l (n + length xs)
+unfolding chain walked
+chain-ends [] l n = ap (walked l) (omega arith)
+chain-ends (x ∷ xs) l n = chain-ends xs l (n + 1) ∙ ap (walked l) (omega arith)
 
 chain-flat : (xs : List Item) (l : Listing) → flat (chain xs l) ≡ eventsOf xs ++ flat l
 unfolding chain flat eventsOf

@@ -9,11 +9,12 @@ use native.Mathlib.Decide.{decLe}
 use lib.ListN.{length}
 use Rattle.events.specs.declared.Walked.{Walked}
 use Rattle.events.specs.declared.Walked.the-variants.{Done, Stopped}
-use Rattle.events.specs.Judged.{Stand}
+use Rattle.walk.specs.Judged.{Stand}
 use Rattle.events.specs.Listing.{Listing as Laying, end, fault}
 use Rattle.events.specs.Lay.{room}
 use Rattle.walk.specs.Paths.{Below, here, down, Item, item, paths}
-use Rattle.walk.specs.Shown.{flat, ends, over, shown, Walks}
+use Rattle.walk.specs.Shown.{flat, over, shown, Walks}
+use Rattle.walk.proofs.Laid.{walked, walked-told, told-same}
 use Rattle.walk_laws.specs.Promise.{Leads, AllRead, Everything, UpTo101, eventAt, namesAfter, written, Good, Halt}
 use Rattle.walk_laws.specs.Promise.{Success, Listing, Refusal, Untouched, Paths, OneAnswer, WalkTheorem}
 use Rattle.walk_laws.proofs.Order.{strict-order, one-list}
@@ -24,7 +25,7 @@ use Rattle.walk_laws.proofs.Judge.{leads-answered}
 use Rattle.walk_laws.proofs.Stops.{chain, chain-ends, chain-over, Fine, fine-shown, stop-room, halt-shown, Halted, decided}
 
 pub one-answer : OneAnswer
-one-answer d out r q left rest a b = (a .answer ∙ sym (b .answer), a .leaves ∙ sym (b .leaves))
+one-answer d out r q left rest a b = (told-same r q (a .answer ∙ sym (b .answer)), a .leaves ∙ sym (b .leaves))
 
 -- ---- a path that is too long has a beginning of each length
 record Cut (d : List ℕ) (s : Stand) (k : ℕ) : Type 0 where
@@ -84,18 +85,21 @@ lists d = ((paths d, reach d), λ a. (paths d, everything d a))
 
 -- ---- what the promise says in each case
 module _ (d out : List ℕ) (r : Walked) (left : List ℕ) (w : Walks d out r left) where
-  by-shown : (xs : List Item) (l : Laying) → shown d (room out) ≡ chain xs l → (r ≡ ends l (length xs)) × (flat l ≡ [] → left ≡ written xs out)
+  by-shown : (xs : List Item) (l : Laying) → shown d (room out) ≡ chain xs l → (r ≡ walked l (length xs)) × (flat l ≡ [] → left ≡ written xs out)
   by-shown xs l e = (
-    w .answer ∙ ap (λ (y : Laying). ends y 0) e ∙ chain-ends xs l 0 ∙ ap (ends l) (omega arith),
+    told-same r (walked (shown d (room out)) 0) (w .answer ∙ sym (walked-told (shown d (room out)) 0))
+        ∙ ap (λ (y : Laying). walked y 0) e
+        ∙ chain-ends xs l 0
+        ∙ ap (walked l) (omega arith),
     λ f. w .leaves ∙ ap (λ (y : Laying). over y out) e ∙ chain-over xs l out f,
   )
 
   fine-done : Fine d (paths d) (room out) → (r ≡ Done (length (paths d))) × (left ≡ written (paths d) out)
-  unfolding shown ends flat
+  unfolding shown walked flat
   fine-done f = let s = by-shown (paths d) end (fine-shown d (paths d) (room out) f) in (s .0, s .1 refl)
 
   halt-stopped : (f p n : ℕ) (h : Halt d (paths d) (room out) f p n) → (r ≡ Stopped f p n) × (left ≡ written (h .before) out)
-  unfolding shown ends flat
+  unfolding shown walked flat
   halt-stopped f p n h =
       let s = by-shown (h .before) (fault f p) (halt-shown d (paths d) (room out) f p n h) in
       (s .0 ∙ ap (Stopped f p) (sym (h .count)), s .1 refl)

@@ -22,7 +22,7 @@ use Rattle.events.specs.declared.Walked.{Walked}
 use Rattle.events.specs.declared.Walked.the-variants.{Done, Stopped}
 use Rattle.events.specs.Events.{noKey, eventOf, numbers, wide}
 use Rattle.events.specs.Text.{bytes, isText}
-use Rattle.events.specs.Judged.{Stand, spot}
+use Rattle.walk.specs.Judged.{Stand, spot}
 use Rattle.events.specs.Lay.{room}
 use Rattle.walk.specs.Paths.{rootStand, Below, Before, Item, item, lastOf}
 use Rattle.walk.specs.Shown.{Walks}

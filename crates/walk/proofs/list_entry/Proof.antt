@@ -18,13 +18,13 @@ enum-known-r c = search needs
 value-start-requires : tie.Need-value-start-requires
 value-start-requires c κs = search needs
 
-cast-t16 : tie.Need-cast-t16
-cast-t16 c =
+cast-t17 : tie.Need-cast-t17
+cast-t17 c =
     let a = c .before .before .before .before .before .before .before .before .args in
     omega (
       arith,
       start-small (now (a .doc)) (a .v) (a .i)
-          (sym (c .before .before .before .before .before .before .before .before .pre) ∙ c .before .before .before .r .given .1),
+          (sym (c .before .before .before .before .before .before .before .before .pre .0) ∙ c .before .before .before .r .given .1),
       c .value-start .ensures,
     )
 
@@ -58,7 +58,7 @@ list-entry-spec =
     value-place-requires
     enum-known-r
     value-start-requires
-    cast-t16
+    cast-t17
     list-value-requires
     enum-known-r-2
     same-length

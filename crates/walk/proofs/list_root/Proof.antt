@@ -1,7 +1,7 @@
 -- The root has no key, and its refusal has the place 0.
 -- Assumes nothing.
 use denote.Ref.{now}
-use Rattle.walk.proofs.Cases.{root-listed, root-refused}
+use Rattle.walk.proofs.Cases.{no-key-text, root-listed, root-refused}
 use borrow.Author.Needs.{needs}
 use Rattle.walk.proofs.list_root.Statement.{statement}
 use Rattle.walk.proofs.list_root.Tie as tie
@@ -13,7 +13,7 @@ root-start-requires : tie.Need-root-start-requires
 root-start-requires c κs = search needs
 
 list-value-requires : tie.Need-list-value-requires
-list-value-requires c κs = search needs
+list-value-requires c κs = no-key-text (now (c .before .before .before .before .before .before .before .args .doc))
 
 enum-known-r-2 : tie.Need-enum-known-r-2
 enum-known-r-2 c = search needs

@@ -7,10 +7,11 @@ use mathlib.Core.List.{List}
 use Rattle.gate.specs.Said.{Said, says, nothing, refuses}
 use Rattle.value.specs.declared.Span.{Span}
 use Rattle.value.specs.declared.Value.{Value}
 use Rattle.events.specs.declared.Event.{Event}
 use Rattle.events.specs.declared.Spot.{Spot}
 use Rattle.events.specs.Events.{eventOf}
 use Rattle.events.specs.Text.{isText, isTextual}
+use Rattle.events.specs.Listing.{Listing, end, fault, event}
 
 -- what stands at a path: the places of its entries, its key, its value, and the value's first byte
 pub record Stand : Type 0 where
@@ -42,3 +43,11 @@ keyJudged d depth i s (refuses n) = bad n (s .keyPlace)
 -- a path of this length that ends in position i
 abbrev pub judged : List ℕ → ℕ → ℕ → Stand → Judged
 judged d depth i s = keyJudged d depth i s (s .key)
+
+-- one path whose value entry is at a place, and what is below it
+abbrev pub node : Judged → ℕ → (Value → Listing) → Listing
+node (bad n q) p below = fault n q
+node (good e x) p below = event e p (below x)
+
+abbrev pub childless : Value → Listing
+childless x = end
