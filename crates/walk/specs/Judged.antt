@@ -1,5 +1,5 @@
--- What is said of one path: its event, or its first fault with its number and place. The order is document 01's: the key 5, the key 9, the value, a
--- string 9. A key's fault has the place of the key entry, any other that of the value entry.
+-- What is said of one path that is not too long: its event, or its first fault with its number and place. The order is document 01's: the key 5, the key 9,
+-- the value, a string 9. A key's fault has the place of the key entry, any other that of the value entry.
 -- Assumes nothing.
 use Prim.Native.Nat.{ℕ}
 use mathlib.Core.Bool.{cond}
@@ -44,7 +44,7 @@ keyJudged d depth i s (refuses n) = bad n (s .keyPlace)
 abbrev pub judged : List ℕ → ℕ → ℕ → Stand → Judged
 judged d depth i s = keyJudged d depth i s (s .key)
 
--- one path whose value entry is at a place, and what is below it
+-- one path whose value entry is at a place, and what is listed after it
 abbrev pub node : Judged → ℕ → (Value → Listing) → Listing
 node (bad n q) p below = fault n q
 node (good e x) p below = event e p (below x)

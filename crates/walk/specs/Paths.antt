@@ -17,7 +17,8 @@ use Rattle.events.specs.Events.{noKey}
 use Rattle.walk.specs.Judged.{Stand, Judged, bad, judged, node}
 use Rattle.events.specs.Listing.{Listing, end}
 
--- ---- what stands at the root and at a position of a container. The root has no entry: its place is 0. No value starts at the first byte
+-- ---- what stands at the root and at a position of a container. The root has no entry: its place is 0, and its value
+-- starts past its type byte; the empty document has neither, and its null starts at 0
 abbrev pub rootStand : List ℕ → Stand
 rootStand d = record { place = 0; keyPlace = 0; key = says noKey; value = readSaid (rootRead d); from = cond (eqb (length d) 0) 0 1 }
 
@@ -50,6 +51,7 @@ countIn (says x) = countOf x
 countIn nothing = 0
 countIn (refuses n) = 0
 
+-- ---- what a path is, and their order. The promise goes by `paths` below, which the theorem of walk_laws shows to be all paths in this sense and order
 -- from what stands at s, the path leads to what stands at t
 pub data Below (d : List ℕ) : Stand → List ℕ → Stand → Type 0 where
   here : {s : Stand} → Below d s [] s

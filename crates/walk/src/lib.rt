@@ -23,7 +23,7 @@ ghost use Rattle.walk.specs.Tested.{stringIn, stringOf, keyOf, keyIn, te
 ghost use Rattle.walk.specs.Shown.{Walks};
 
 // What a value leads to: the elements of an array, the members of an object, or nothing.
-pub enum Leads {
+enum Leads {
     Array(View),
     Object(View),
     Nothing,

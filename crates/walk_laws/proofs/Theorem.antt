@@ -199,6 +199,7 @@ walk-theorem =
       listing = listing;
       refusal = refusal;
       untouched = untouched;
+      promised = reach;
       lists = lists;
       one-list = one-list;
       one-place = one-place;

@@ -24,7 +24,7 @@ use Rattle.events.specs.Events.{noKey, eventOf, numbers, wide}
 use Rattle.events.specs.Text.{bytes, isText}
 use Rattle.walk.specs.Judged.{Stand, spot}
 use Rattle.events.specs.Lay.{room}
-use Rattle.walk.specs.Paths.{rootStand, Below, Before, Item, item, lastOf}
+use Rattle.walk.specs.Paths.{rootStand, Below, Before, Item, item, lastOf, paths}
 use Rattle.walk.specs.Shown.{Walks}
 
 -- ---- keys and strings are UTF-8: the part lies in the document, and its bytes are in RFC 3629's grammar
@@ -176,6 +176,10 @@ abbrev pub Untouched : Type 0
 Untouched = (d out : List ℕ) (f p n : ℕ) (left : List ℕ) → Walks d out (Stopped f p n) left → (xs : List Item) → UpTo101 d xs →
     (h : Halt d xs (room out) f p n) → left ≡ written (h .before) out
 
+-- the paths in the definition of the promise are these paths
+abbrev pub Promised : Type 0
+Promised = (d : List ℕ) → UpTo101 d (paths d)
+
 -- there are such lists of paths, and no two: the promise is about one list
 abbrev pub Paths : Type 0
 Paths = (d : List ℕ) → ((xs : List Item) × UpTo101 d xs) × (AllRead d → (xs : List Item) × Everything d xs)
@@ -208,6 +212,7 @@ pub record WalkTheorem : Type 1 where
   pub listing : Listing
   pub refusal : Refusal
   pub untouched : Untouched
+  pub promised : Promised
   pub lists : Paths
   pub one-list : OneList
   pub one-place : OnePlace
