@@ -6,3 +6,4 @@ pub mod Judge
 pub mod Stops
 pub mod Theorem
 pub mod Corollaries
+pub mod Numbers
