@@ -1,9 +1,7 @@
 // Runs the worked examples of what stands within a document of binary JSON, a line each: the question, and what the library answers. These are the
 // bytes of strings and keys, length fields, and decimals in opaque values.
 use codes::ColumnType;
-use decimal::Answer;
-use decimal::Counted;
-use decimal::Decimal;
+use decimal_words::say_answer;
 use jsonb::Found;
 use jsonb::Key;
 use jsonb::Read;
@@ -16,9 +14,7 @@ use words::root_view;
 use words::say;
 use words::say_container;
 use words::say_document;
-use words::say_front_hex;
 use words::say_hex;
-use words::say_next;
 use words::say_number;
 use words::say_refused;
 
@@ -108,50 +104,6 @@ fn length(doc: &[u8]) {
 }
 
 // ---- decimals
-
-fn say_front(text: &[u8], n: usize) {
-    if n <= text.len() {
-        say(&text[..n]);
-    }
-}
-
-fn say_text(d: Decimal) {
-    let mut text = [0u8; 68];
-    match d.print(&mut text) {
-        Counted::Bytes(n) => say_front(&text, n),
-        Counted::Refused(n) => say_refused(n),
-    }
-}
-
-fn say_written(d: Decimal) {
-    let mut room = [0u8; 32];
-    match d.write_bin(&mut room) {
-        Counted::Bytes(n) => say_front_hex(&room, n),
-        Counted::Refused(n) => say_refused(n),
-    }
-}
-
-// Both counts of digits, the sign, what it prints and what it writes.
-fn say_decimal(d: Decimal) {
-    say_number(d.intg as u64);
-    say_next(d.frac as u64);
-    if d.sign {
-        say(b" - ");
-    } else {
-        say(b" + ");
-    }
-    say_text(d);
-    say(b" ");
-    say_written(d);
-}
-
-fn say_answer(a: Answer) {
-    if a.refusal == 0 {
-        say_decimal(a.decimal);
-    } else {
-        say_refused(a.refusal);
-    }
-}
 
 // The decimal of an opaque value, with its precision kept; other values are none.
 fn say_decimal_of(doc: &[u8], x: Value) {

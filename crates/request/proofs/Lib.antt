@@ -1,0 +1,4 @@
+pub mod Scan
+pub mod Value
+pub mod Pairs
+pub mod Room

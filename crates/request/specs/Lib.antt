@@ -1,0 +1,4 @@
+pub mod Test
+pub mod Find
+pub mod Number
+pub mod Hex
