@@ -1,7 +1,7 @@
 -- How an answer reaches a program in C: the function returns the refusal's number, or 0, and stores the answer's numbers at the front of a lent list; what
 -- stands behind them stays. A list shorter than the answer takes is 25, before anything else is looked at, and then no lent number changes.
 -- Assumes nothing.
-use Prim.Native.Nat.{ℕ, _/_, _%_}
+use Prim.Native.Nat.{ℕ}
 use mathlib.Core.Path.{_≡_}
 use mathlib.Core.Bool.{Bool, cond, not}
 use mathlib.Core.List.{List, _++_}
@@ -37,10 +37,3 @@ beside w out before after = cond (ltb (length out) w) before after
 -- a flag or a sign: 0 is no, any other number yes
 abbrev pub flag : ℕ → Bool
 flag n = not (eqb n 0)
-
--- a number of 64 bits as two of 32
-abbrev pub low : ℕ → ℕ
-low n = n % 4294967296
-
-abbrev pub high : ℕ → ℕ
-high n = n / 4294967296

@@ -2,8 +2,6 @@
 use super::store::put_five;
 use super::store::put_three;
 use super::store::put_two;
-use super::values::holds;
-use super::values::kind_of;
 use events::Spot;
 use events::Walked;
 use gate::Found;
@@ -18,8 +16,9 @@ ghost use lib.ListN.{length};
 ghost use Rattle.gate.specs.Said.{foundSaid, keySaid};
 ghost use Rattle.jsonb.specs.Views.{countSaid};
 ghost use Rattle.walk.specs.Shown.{told};
+ghost use Rattle.held.specs.Numbers.{valueNumbers};
 ghost use Rattle.relay.specs.Layout.{laid, Puts};
-ghost use Rattle.relay.specs.Documents.{valueNumbers, valueTold, keyTold, countTold, endTold, Small};
+ghost use Rattle.relay.specs.Documents.{valueTold, keyTold, countTold, endTold, Small};
 
 pub(crate) fn widen(n: u8) -> u32
     ensures { λ r. ⌜ r ≡ n ⌝ }
@@ -41,8 +40,8 @@ fn put_value(answer: &mut [u32], x: Value)
         },
         x,
     );
-    let h = holds(x);
-    put_five(answer, kind_of(x), e.code, h.start, h.len, e.extra);
+    let h = held::holds(x);
+    put_five(answer, held::kind_of(x), e.code, h.start, h.len, e.extra);
 }
 
 pub(crate) fn put_found(answer: &mut [u32], f: Found) -> u32

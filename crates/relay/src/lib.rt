@@ -2,7 +2,6 @@
 // stores its answer's numbers at the front of `answer`; an `answer` that is too short is refused by 25 before all else, and then nothing lent changes.
 mod answers;
 mod store;
-mod values;
 
 use answers::put_count;
 use answers::put_found;

@@ -8,7 +8,7 @@ use Rattle.value.specs.declared.Span.{Span}
 use Rattle.events.specs.declared.Event.{Event}
 use Rattle.events.specs.Events.{codeOf, extraOf}
 use Rattle.relay.specs.Layout.{laid}
-use Rattle.relay.specs.Documents.{kindOf}
+use Rattle.held.specs.Numbers.{kindOf}
 use borrow.Author.Needs.{needs}
 use Rattle.relay.proofs.answers.put_value.Statement.{statement}
 use Rattle.relay.proofs.answers.put_value.Tie as tie

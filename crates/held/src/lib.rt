@@ -1,4 +1,4 @@
-// Values as numbers.
+// A value as numbers, for programs in other languages: what kind it is, and two numbers that say what it holds.
 use value::Number;
 use value::Scalar;
 use value::Span;
@@ -9,10 +9,9 @@ ghost use lib.Ieee.{binary64, toBits};
 ghost use mir.Syntax.{w64};
 ghost use mir.Val.{ofZ};
 ghost use Rattle.events.specs.Events.{span};
-ghost use Rattle.relay.specs.Layout.{low, high};
-ghost use Rattle.relay.specs.Documents.{numberKind, scalarKind, kindOf, bitsOf, scalarHolds, holds};
+ghost use Rattle.held.specs.Numbers.{numberKind, scalarKind, kindOf, bitsOf, low, high, scalarHolds, holds};
 
-pub(crate) fn one(b: bool) -> u32
+fn one(b: bool) -> u32
     ensures { λ r. ⌜ r ≡ cond b 1 0 ⌝ }
 {
     if b {
@@ -44,7 +43,8 @@ fn scalar_kind(s: Scalar) -> u32
     }
 }
 
-pub(crate) fn kind_of(x: Value) -> u32
+// What kind of value it is.
+pub fn kind_of(x: Value) -> u32
     ensures { λ r. ⌜ r ≡ kindOf x ⌝ }
 {
     match x {
@@ -110,7 +110,7 @@ fn scalar_holds(s: Scalar) -> Span
 }
 
 // Two numbers that say what a value holds.
-pub(crate) fn holds(x: Value) -> Span
+pub fn holds(x: Value) -> Span
     ensures { λ r. ⌜ r ≡ holds x ⌝ }
 {
     match x {

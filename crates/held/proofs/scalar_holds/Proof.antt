@@ -3,11 +3,10 @@
 use mathlib.Core.Path.{sym, ap, _∙_}
 use Prim.Native.Nat.{ℕ}
 use Rattle.events.specs.Events.{span}
-use Rattle.relay.specs.Layout.{low, high}
-use Rattle.relay.specs.Documents.{scalarHolds}
+use Rattle.held.specs.Numbers.{low, high, scalarHolds}
 use borrow.Author.Needs.{needs}
-use Rattle.relay.proofs.values.scalar_holds.Statement.{statement}
-use Rattle.relay.proofs.values.scalar_holds.Tie as tie
+use Rattle.held.proofs.scalar_holds.Statement.{statement}
+use Rattle.held.proofs.scalar_holds.Tie as tie
 
 enum-told : tie.Need-enum-told
 enum-told c = search needs

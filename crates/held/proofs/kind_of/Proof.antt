@@ -1,10 +1,10 @@
 -- A scalar's kind is its own.
 -- Assumes nothing.
 use mathlib.Core.Path.{sym, ap, _∙_}
-use Rattle.relay.specs.Documents.{kindOf}
+use Rattle.held.specs.Numbers.{kindOf}
 use borrow.Author.Needs.{needs}
-use Rattle.relay.proofs.values.kind_of.Statement.{statement}
-use Rattle.relay.proofs.values.kind_of.Tie as tie
+use Rattle.held.proofs.kind_of.Statement.{statement}
+use Rattle.held.proofs.kind_of.Tie as tie
 
 enum-known-x : tie.Need-enum-known-x
 enum-known-x c = search needs

@@ -1,8 +1,8 @@
 -- Below 0 the bits are the complement of the number's distance to -1, which fits as the number does; else they are the number.
 -- Assumes nothing.
-use Rattle.relay.proofs.Bits.{mirror-fits, mirror-cast, mirror-below, complement, itself-cast, itself}
-use Rattle.relay.proofs.values.signed_bits.Statement.{statement}
-use Rattle.relay.proofs.values.signed_bits.Tie as tie
+use Rattle.held.proofs.Bits.{mirror-fits, mirror-cast, mirror-below, complement, itself-cast, itself}
+use Rattle.held.proofs.signed_bits.Statement.{statement}
+use Rattle.held.proofs.signed_bits.Tie as tie
 
 sub-result : tie.Need-sub-result
 sub-result c = mirror-fits (c .before .args .x) (c .before .fits .x) (c .if1 .taken)

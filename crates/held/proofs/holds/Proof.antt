@@ -1,10 +1,10 @@
 -- A scalar holds what its case says, a container its start and size.
 -- Assumes nothing.
 use mathlib.Core.Path.{sym, ap, _∙_}
-use Rattle.relay.specs.Documents.{holds}
+use Rattle.held.specs.Numbers.{holds}
 use borrow.Author.Needs.{needs}
-use Rattle.relay.proofs.values.holds.Statement.{statement}
-use Rattle.relay.proofs.values.holds.Tie as tie
+use Rattle.held.proofs.holds.Statement.{statement}
+use Rattle.held.proofs.holds.Tie as tie
 
 enum-known-x : tie.Need-enum-known-x
 enum-known-x c = search needs

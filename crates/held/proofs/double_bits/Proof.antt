@@ -1,9 +1,9 @@
 -- Only what is no number differs from itself, and any other has bits.
 -- Assumes nothing.
-use Rattle.relay.proofs.Bits.{nan-bits, number-bits}
+use Rattle.held.proofs.Bits.{nan-bits, number-bits}
 use borrow.Author.Needs.{needs}
-use Rattle.relay.proofs.values.double_bits.Statement.{statement}
-use Rattle.relay.proofs.values.double_bits.Tie as tie
+use Rattle.held.proofs.double_bits.Statement.{statement}
+use Rattle.held.proofs.double_bits.Tie as tie
 
 returns : tie.Need-returns
 returns c = nan-bits (c .before .args .x) (c .if1 .taken)

@@ -4,10 +4,10 @@ use mathlib.Core.Path.{sym, ap, _∙_}
 use mir.Syntax.{w64}
 use mir.Val.{ofZ}
 use mir.Facts.{toZ-ofZ}
-use Rattle.relay.specs.Documents.{bitsOf}
+use Rattle.held.specs.Numbers.{bitsOf}
 use borrow.Author.Needs.{needs}
-use Rattle.relay.proofs.values.bits_of.Statement.{statement}
-use Rattle.relay.proofs.values.bits_of.Tie as tie
+use Rattle.held.proofs.bits_of.Statement.{statement}
+use Rattle.held.proofs.bits_of.Tie as tie
 
 enum-known-x : tie.Need-enum-known-x
 enum-known-x c = search needs
