@@ -1,29 +1,35 @@
 // The functions for programs in C and Rust: numbers and lent slices alone, and no demand on the caller. Each returns a refusal's number, or 0, and
 // stores its answer's numbers at the front of `answer`; an `answer` that is too short is refused by 25 before all else, and then nothing lent changes.
-mod answers;
-mod store;
+mod walked;
 
-use answers::put_count;
-use answers::put_found;
-use answers::put_key;
-use answers::put_walked;
-use gate::Found;
-use gate::Key;
-use jsonb::Count;
 use layout::Kind;
+use rows::put_count;
+use rows::put_found;
+use rows::put_key;
 use value::View;
+use walked::put_walked;
 ghost use mathlib.Core.Path.{_≡_};
-ghost use Prim.Native.Nat.{_≤_, _<_};
-ghost use lib.ListN.{length};
-ghost use Rattle.gate.specs.Said.{readSaid, foundSaid, keySaid};
-ghost use Rattle.jsonb.specs.Views.{rootRead, elemAt, keyAt, countAt, countSaid};
-ghost use Rattle.relay.specs.Layout.{Relays, beside};
-ghost use Rattle.relay.specs.Documents.{valueTold, keyTold, countTold, viewBy, noKind, askedBy, walkTold, walkLeaves};
+ghost use Rattle.gate.specs.Said.{readSaid};
+ghost use Rattle.jsonb.specs.Views.{rootRead, elemAt, keyAt, countAt};
+ghost use Rattle.rows.specs.Layout.{Relays, beside};
+ghost use Rattle.rows.specs.Rows.{valueTold, keyTold, countTold};
+ghost use Rattle.relay.specs.Documents.{viewBy, walkTold, walkLeaves};
 
 // A view by its numbers: the type code says of what kind it is.
 fn view_by(code: u32, start: u32, size: u32, count: u32) -> View
     ensures { λ r. ⌜ r ≡ viewBy code start size count ⌝ }
 {
+    if 3 < code {
+        return View {
+            start: 4294967295,
+            size: 0,
+            count: 0,
+            kind: Kind {
+                object: false,
+                large: false,
+            },
+        };
+    }
     View {
         start,
         size,
@@ -35,51 +41,11 @@ fn view_by(code: u32, start: u32, size: u32, count: u32) -> View
     }
 }
 
-// What is refused where the code is not a container's.
-fn no_kind(doc: &[u8]) -> u8
-    ensures { λ r. ⌜ r ≡ noKind (now (doc .entry)) ⌝ }
-{
-    if 16777216 < doc.len() {
-        return refusal::DOCUMENT;
-    }
-    refusal::VIEW
-}
-
-fn elem_by(doc: &[u8], code: u32, start: u32, size: u32, count: u32, pos: u32) -> Found
-    ensures { λ r. ⌜ foundSaid r ≡ askedBy (now (doc .entry)) code (elemAt (now (doc .entry)) (viewBy code start size count) pos) ⌝ }
-{
-    if 3 < code {
-        return Found::Refused(no_kind(doc));
-    }
-    jsonb::elem_at(doc, view_by(code, start, size, count), pos)
-}
-
-fn key_by(doc: &[u8], code: u32, start: u32, size: u32, count: u32, pos: u32) -> Key
-    ensures { λ r. ⌜ keySaid r ≡ askedBy (now (doc .entry)) code (keyAt (now (doc .entry)) (viewBy code start size count) pos) ⌝ }
-{
-    if 3 < code {
-        return Key::Refused(no_kind(doc));
-    }
-    jsonb::key_at(doc, view_by(code, start, size, count), pos)
-}
-
-fn count_by(doc: &[u8], code: u32, start: u32, size: u32, count: u32) -> Count
-    ensures { λ r. ⌜ countSaid r ≡ askedBy (now (doc .entry)) code (countAt (now (doc .entry)) (viewBy code start size count)) ⌝ }
-{
-    if 3 < code {
-        return Count::Refused(no_kind(doc));
-    }
-    jsonb::element_count(doc, view_by(code, start, size, count))
-}
-
 // The root value.
 #[no_mangle]
 pub extern "C" fn bratthelm_root(doc: &[u8], answer: &mut [u32]) -> u32
     ensures { λ r. ⌜ Relays 5 (valueTold (readSaid (rootRead (now (doc .entry))))) (now (answer .entry)) r (now (answer .exit)) ⌝ }
 {
-    if answer.len() < 5 {
-        return 25;
-    }
     put_found(answer, gate::found_of(jsonb::deserialize(doc)))
 }
 
@@ -94,12 +60,9 @@ pub extern "C" fn bratthelm_elem_at(
     pos: u32,
     answer: &mut [u32],
 ) -> u32
-    ensures { λ r. ⌜ Relays 5 (valueTold (askedBy (now (doc .entry)) code (elemAt (now (doc .entry)) (viewBy code start size count) pos))) (now (answer .entry)) r (now (answer .exit)) ⌝ }
+    ensures { λ r. ⌜ Relays 5 (valueTold (elemAt (now (doc .entry)) (viewBy code start size count) pos)) (now (answer .entry)) r (now (answer .exit)) ⌝ }
 {
-    if answer.len() < 5 {
-        return 25;
-    }
-    put_found(answer, elem_by(doc, code, start, size, count, pos))
+    put_found(answer, jsonb::elem_at(doc, view_by(code, start, size, count), pos))
 }
 
 // The key at a position of an object.
@@ -113,12 +76,9 @@ pub extern "C" fn bratthelm_key_at(
     pos: u32,
     answer: &mut [u32],
 ) -> u32
-    ensures { λ r. ⌜ Relays 3 (keyTold (askedBy (now (doc .entry)) code (keyAt (now (doc .entry)) (viewBy code start size count) pos))) (now (answer .entry)) r (now (answer .exit)) ⌝ }
+    ensures { λ r. ⌜ Relays 3 (keyTold (keyAt (now (doc .entry)) (viewBy code start size count) pos)) (now (answer .entry)) r (now (answer .exit)) ⌝ }
 {
-    if answer.len() < 3 {
-        return 25;
-    }
-    put_key(answer, key_by(doc, code, start, size, count, pos))
+    put_key(answer, jsonb::key_at(doc, view_by(code, start, size, count), pos))
 }
 
 // How many elements or members a container has.
@@ -131,12 +91,9 @@ pub extern "C" fn bratthelm_element_count(
     count: u32,
     answer: &mut [u32],
 ) -> u32
-    ensures { λ r. ⌜ Relays 1 (countTold (askedBy (now (doc .entry)) code (countAt (now (doc .entry)) (viewBy code start size count)))) (now (answer .entry)) r (now (answer .exit)) ⌝ }
+    ensures { λ r. ⌜ Relays 1 (countTold (countAt (now (doc .entry)) (viewBy code start size count))) (now (answer .entry)) r (now (answer .exit)) ⌝ }
 {
-    if answer.len() < 1 {
-        return 25;
-    }
-    put_count(answer, count_by(doc, code, start, size, count))
+    put_count(answer, jsonb::element_count(doc, view_by(code, start, size, count)))
 }
 
 // Every path of the document, as events in a lent slice.

@@ -1,17 +1,20 @@
--- The answer's room is tested first; then what is found is put.
+-- What is found by the view is put.
 -- Assumes nothing.
-use mathlib.Core.Path.{ap}
-use Rattle.relay.specs.Documents.{valueTold}
-use Rattle.relay.proofs.Puts.{too-short, long-enough}
+use denote.Ref.{now}
+use mathlib.Core.Path.{ap, _∙_}
+use Rattle.value.specs.declared.View.{View}
+use Rattle.jsonb.specs.Views.{elemAt}
+use Rattle.rows.specs.Rows.{valueTold}
+use Rattle.rows.proofs.Puts.{same-told}
 use borrow.Author.Needs.{needs}
 use Rattle.relay.proofs.bratthelm_elem_at.Statement.{statement}
 use Rattle.relay.proofs.bratthelm_elem_at.Tie as tie
 
-returns : tie.Need-returns
-returns c = too-short 5 _ (c .if1 .taken)
+view-by-requires : tie.Need-view-by-requires
+view-by-requires c κs = search needs
 
-elem-by-requires : tie.Need-elem-by-requires
-elem-by-requires c κs = search needs
+elem-at-requires : tie.Need-elem-at-requires
+elem-at-requires c κs = search needs
 
 put-found-requires : tie.Need-put-found-requires
 put-found-requires c κs = search needs
@@ -19,9 +22,11 @@ put-found-requires c κs = search needs
 same-length : tie.Need-same-length
 same-length c = search needs
 
-returns-2 : tie.Need-returns-2
-returns-2 c = long-enough 5 _ (c .before .before .before .before .before .if1 .left) (ap valueTold (c .before .before .before .elem-by .ensures)) (c .before .before .put-found .ensures)
+returns : tie.Need-returns
+returns c =
+    let a = c .before .before .before .before .before .before .before .before .args in
+    same-told (ap valueTold (c .before .before .before .elem-at .ensures ∙ ap (λ (v : View). elemAt (now (a .doc)) v (a .pos)) (c .before .before .before .before .view-by .ensures))) (c .before .before .put-found .ensures)
 
 pub bratthelm-elem-at-spec : {M : Type 1} → statement M
 bratthelm-elem-at-spec =
-    tie.close (tie.spec returns elem-by-requires put-found-requires same-length returns-2)
+    tie.close (tie.spec view-by-requires elem-at-requires put-found-requires same-length returns)

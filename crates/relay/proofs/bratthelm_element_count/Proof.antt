@@ -1,17 +1,19 @@
--- The answer's room is tested first; then the count is put.
+-- The count of the view is put.
 -- Assumes nothing.
-use mathlib.Core.Path.{ap}
-use Rattle.relay.specs.Documents.{countTold}
-use Rattle.relay.proofs.Puts.{too-short, long-enough}
+use denote.Ref.{now}
+use mathlib.Core.Path.{ap, _∙_}
+use Rattle.jsonb.specs.Views.{countAt}
+use Rattle.rows.specs.Rows.{countTold}
+use Rattle.rows.proofs.Puts.{same-told}
 use borrow.Author.Needs.{needs}
 use Rattle.relay.proofs.bratthelm_element_count.Statement.{statement}
 use Rattle.relay.proofs.bratthelm_element_count.Tie as tie
 
-returns : tie.Need-returns
-returns c = too-short 1 _ (c .if1 .taken)
+view-by-requires : tie.Need-view-by-requires
+view-by-requires c κs = search needs
 
-count-by-requires : tie.Need-count-by-requires
-count-by-requires c κs = search needs
+element-count-requires : tie.Need-element-count-requires
+element-count-requires c κs = search needs
 
 put-count-requires : tie.Need-put-count-requires
 put-count-requires c κs = search needs
@@ -19,9 +21,10 @@ put-count-requires c κs = search needs
 same-length : tie.Need-same-length
 same-length c = search needs
 
-returns-2 : tie.Need-returns-2
-returns-2 c = long-enough 1 _ (c .before .before .before .before .before .if1 .left) (ap countTold (c .before .before .before .count-by .ensures)) (c .before .before .put-count .ensures)
+returns : tie.Need-returns
+returns c = same-told (ap countTold (c .before .before .before .element-count .ensures ∙ ap (countAt (now (c .before .before .before .before .before .before .before .before .args .doc))) (c .before .before .before .before .view-by .ensures))) (c .before .before .put-count .ensures)
 
 pub bratthelm-element-count-spec : {M : Type 1} → statement M
 bratthelm-element-count-spec =
-    tie.close (tie.spec returns count-by-requires put-count-requires same-length returns-2)
+    tie.close
+    (tie.spec view-by-requires element-count-requires put-count-requires same-length returns)

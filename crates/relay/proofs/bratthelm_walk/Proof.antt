@@ -3,8 +3,8 @@
 use denote.Ref.{now}
 use mathlib.Core.Path.{refl, ap}
 use Rattle.relay.specs.Documents.{endTold, walkTold}
-use Rattle.relay.proofs.Asked.{small, walked}
-use Rattle.relay.proofs.Puts.{too-short, long-enough, as-it-was, changed}
+use Rattle.relay.proofs.Documents.{small, walked}
+use Rattle.rows.proofs.Puts.{too-short, same-told, as-it-was, changed}
 use borrow.Author.Needs.{needs}
 use Rattle.relay.proofs.bratthelm_walk.Statement.{statement}
 use Rattle.relay.proofs.bratthelm_walk.Tie as tie
@@ -26,7 +26,7 @@ same-length-2 c = search needs
 
 returns-2 : tie.Need-returns-2
 unfolding walkTold
-returns-2 c = (long-enough 2 _ (c .before .before .before .before .before .before .before .before .if1 .left) (ap endTold (c .before .before .before .before .before .walk .ensures .answer)) (c .before .before .put-walked .ensures), changed 2 _ _ _ (c .before .before .before .before .before .before .before .before .if1 .left) (walked _ _ (c .before .before .before .before .before .walk .ensures)))
+returns-2 c = (same-told (ap endTold (c .before .before .before .before .before .walk .ensures .answer)) (c .before .before .put-walked .ensures), changed 2 _ _ _ (c .before .before .before .before .before .before .before .before .if1 .left) (walked _ _ (c .before .before .before .before .before .walk .ensures)))
 
 pub bratthelm-walk-spec : {M : Type 1} → statement M
 bratthelm-walk-spec =
