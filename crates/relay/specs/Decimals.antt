@@ -32,7 +32,7 @@ decimalIn xs = record { intg = getD xs 0 0; frac = getD xs 1 0; sign = flag (get
 unfoldable pub held : {A : Type 0} → List ℕ → A → (Decimal → A) → A
 held xs none f = cond (ltb (length xs) 12) none (f (decimalIn xs))
 
--- writing and printing into a lent list of bytes; where the answer finds no room, w numbers in `out`, or there is no decimal, that list is as it was
+-- writing and printing into a lent list of bytes, which is as it was where there is no room for the count, `out` being empty, and where there is no decimal
 unfoldable pub writtenTold : List ℕ → List ℕ → Told
 writtenTold xs bytes = held xs (refusal 26) (λ d. writeBin d bytes)
 

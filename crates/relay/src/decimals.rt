@@ -29,7 +29,15 @@ pub(crate) fn decimal_in(xs: &[u32]) -> Decimal
         frac: wide(xs[1]),
         sign: xs[2] != 0,
         groups: [
-            xs[3], xs[4], xs[5], xs[6], xs[7], xs[8], xs[9], xs[10], xs[11],
+            xs[3],
+            xs[4],
+            xs[5],
+            xs[6],
+            xs[7],
+            xs[8],
+            xs[9],
+            xs[10],
+            xs[11],
         ],
     }
 }

@@ -71,7 +71,10 @@ pub extern "C" fn bratthelm_elem_at(
 ) -> u32
     ensures { λ r. ⌜ Relays 5 (valueTold (elemAt (now (doc .entry)) (viewBy code start size count) pos)) (now (answer .entry)) r (now (answer .exit)) ⌝ }
 {
-    put_found(answer, jsonb::elem_at(doc, view_by(code, start, size, count), pos))
+    put_found(
+        answer,
+        jsonb::elem_at(doc, view_by(code, start, size, count), pos),
+    )
 }
 
 // The key at a position of an object.
@@ -87,7 +90,10 @@ pub extern "C" fn bratthelm_key_at(
 ) -> u32
     ensures { λ r. ⌜ Relays 3 (keyTold (keyAt (now (doc .entry)) (viewBy code start size count) pos)) (now (answer .entry)) r (now (answer .exit)) ⌝ }
 {
-    put_key(answer, jsonb::key_at(doc, view_by(code, start, size, count), pos))
+    put_key(
+        answer,
+        jsonb::key_at(doc, view_by(code, start, size, count), pos),
+    )
 }
 
 // How many elements or members a container has.
@@ -102,7 +108,10 @@ pub extern "C" fn bratthelm_element_count(
 ) -> u32
     ensures { λ r. ⌜ Relays 1 (countTold (countAt (now (doc .entry)) (viewBy code start size count))) (now (answer .entry)) r (now (answer .exit)) ⌝ }
 {
-    put_count(answer, jsonb::element_count(doc, view_by(code, start, size, count)))
+    put_count(
+        answer,
+        jsonb::element_count(doc, view_by(code, start, size, count)),
+    )
 }
 
 // Every path of the document, as events in a lent slice.
@@ -136,11 +145,7 @@ pub extern "C" fn bratthelm_decimal_read_bin(
 
 // The decimal in its packed form: a precision byte, a scale byte and digit bytes.
 #[no_mangle]
-pub extern "C" fn bratthelm_decimal_read_packed(
-    bytes: &[u8],
-    keep: u32,
-    answer: &mut [u32],
-) -> u32
+pub extern "C" fn bratthelm_decimal_read_packed(bytes: &[u8], keep: u32, answer: &mut [u32]) -> u32
     ensures { λ r. ⌜ Relays 12 (decimalTold (readPacked (now (bytes .entry)) (flag keep))) (now (answer .entry)) r (now (answer .exit)) ⌝ }
 {
     put_answer(answer, Decimal::read_packed(bytes, keep != 0))
@@ -196,11 +201,7 @@ pub extern "C" fn bratthelm_decimal_print(
 
 // The order of two decimals by value: 0 less, 1 equal, 2 greater.
 #[no_mangle]
-pub extern "C" fn bratthelm_decimal_compare(
-    left: &[u32],
-    right: &[u32],
-    answer: &mut [u32],
-) -> u32
+pub extern "C" fn bratthelm_decimal_compare(left: &[u32], right: &[u32], answer: &mut [u32]) -> u32
     ensures { λ r. ⌜ Relays 1 (orderTold (now (left .entry)) (now (right .entry))) (now (answer .entry)) r (now (answer .exit)) ⌝ }
 {
     if answer.len() < 1 {

@@ -1,6 +1,6 @@
--- Answers about documents as numbers. A value is five: its kind (0 nothing, 1 null, 2 a truth value, 3 signed, 4 unsigned, 5 a double, 6 a string, 7 opaque, 8 a container), its type code, and three
--- more: for a truth value 1 or 0; for a number its 64 bits, the lower half and the upper; for a string start and length; for an opaque value start, length and
--- column type; for a container start, size and count. What is not used is 0.
+-- Answers about documents as numbers. A value is five: its kind (0 nothing, 1 null, 2 a truth value, 3 signed, 4 unsigned, 5 a double, 6 a string, 7 opaque,
+-- 8 a container), its type code, and three more: for a truth value 1 or 0; for a number its 64 bits, the lower half and the upper; for a string start and
+-- length; for an opaque value start, length and column type; for a container start, size and count. What is not used is 0.
 -- Assumes nothing.
 use Prim.Native.Nat.{ℕ, _/_, _%_}
 use mathlib.Core.Bool.{cond}
@@ -19,6 +19,7 @@ use Rattle.value.specs.declared.Value.the-variants as value
 use Rattle.gate.specs.Said.{Said, says, nothing, refuses}
 use Rattle.events.specs.Events.{span, codeOf, extraOf}
 
+-- ---- values
 abbrev pub numberKind : Number → ℕ
 numberKind (number.Int x) = 3
 numberKind (number.Uint x) = 4
