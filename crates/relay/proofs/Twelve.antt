@@ -30,7 +30,8 @@ use Rattle.decimal.specs.declared.Answer.{Answer}
 use Rattle.decimal_laws.proofs.Lengths.{printed-length}
 use Rattle.rows.specs.Layout.{laid, flag}
 use Rattle.rows.proofs.Puts.{front, changed}
-use Rattle.relay.specs.Decimals.{decimalNumbers, decimalTold, decimalIn, held, writtenTold, writtenLeaves, printedTold, printedLeaves, orderTold, Narrow, Few}
+use Rattle.relay.specs.Decimals.{decimalNumbers, decimalTold, decimalIn, held, writtenTold, writtenLeaves}
+use Rattle.relay.specs.Decimals.{printedTold, printedLeaves, orderTold, Narrow, Few}
 
 -- ---- twelve numbers
 nine : (gs : List ℕ) → length gs ≡ 9 → tab 9 (λ k. getD gs k 0) ≡ gs
@@ -114,7 +115,8 @@ module _ (xs ys : List ℕ) where
   unfolding orderTold
   order-right h l = held-some xs (refusal 26) against h refl (held-none ys (refusal 26) (λ b. compareTold (decimalIn xs) b) l)
 
-  pub order-both : {t : Told} {a b : Decimal} → 12 ≤ length xs → 12 ≤ length ys → a ≡ decimalIn xs → b ≡ decimalIn ys → t ≡ compareTold a b → t ≡ orderTold xs ys
+  pub order-both : {t : Told} {a b : Decimal} → 12 ≤ length xs → 12 ≤ length ys → a ≡ decimalIn xs → b ≡ decimalIn ys →
+      t ≡ compareTold a b → t ≡ orderTold xs ys
   unfolding orderTold
   order-both {a = a} h l p q e = held-some xs (refusal 26) against h p (held-some ys (refusal 26) (λ b. compareTold a b) l q e)
 

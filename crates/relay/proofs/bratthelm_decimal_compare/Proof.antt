@@ -12,10 +12,19 @@ returns : tie.Need-returns
 returns c = too-short 1 _ (c .if1 .taken)
 
 returns-2 : tie.Need-returns-2
-returns-2 c = stores-none 1 _ (c .before .if1 .left) (order-left (now (c .before .before .before .before .before .args .left)) (now (c .before .before .before .before .before .args .right)) (c .if2 .taken)) refl
+returns-2 c =
+    let a = c .before .before .before .before .before .args in
+    let if1 = c .before .if1 in
+    let if2 = c .if2 in
+    stores-none 1 _ (if1 .left) (order-left (now (a .left)) (now (a .right)) (if2 .taken)) refl
 
 returns-3 : tie.Need-returns-3
-returns-3 c = stores-none 1 _ (c .before .before .if1 .left) (order-right (now (c .before .before .before .before .before .before .args .left)) (now (c .before .before .before .before .before .before .args .right)) (c .before .if2 .left) (c .if3 .taken)) refl
+returns-3 c =
+    let a = c .before .before .before .before .before .before .args in
+    let if1 = c .before .before .if1 in
+    let if2 = c .before .if2 in
+    let if3 = c .if3 in
+    stores-none 1 _ (if1 .left) (order-right (now (a .left)) (now (a .right)) (if2 .left) (if3 .taken)) refl
 
 decimal-in-requires : tie.Need-decimal-in-requires
 decimal-in-requires c κs = search needs
@@ -35,7 +44,14 @@ same-length c = search needs
 returns-4 : tie.Need-returns-4
 returns-4 c =
     let a = c .before .before .before .before .before .before .before .before .before .before .before .before .before .args in
-    same-told (order-both (now (a .left)) (now (a .right)) (c .before .before .before .before .before .before .before .before .if2 .left) (c .before .before .before .before .before .before .before .if3 .left) (c .before .before .before .before .before .before .decimal-in .ensures) (c .before .before .before .before .decimal-in2 .ensures) (c .before .before .before .compare .ensures)) (c .before .before .put-compared .ensures)
+    let if2 = c .before .before .before .before .before .before .before .before .if2 in
+    let if3 = c .before .before .before .before .before .before .before .if3 in
+    let decimal-in = c .before .before .before .before .before .before .decimal-in in
+    let decimal-in2 = c .before .before .before .before .decimal-in2 in
+    let compare = c .before .before .before .compare in
+    let put-compared = c .before .before .put-compared in
+    same-told
+    (order-both (now (a .left)) (now (a .right)) (if2 .left) (if3 .left) (decimal-in .ensures) (decimal-in2 .ensures) (compare .ensures)) (put-compared .ensures)
 
 pub bratthelm-decimal-compare-spec : {M : Type 1} → statement M
 bratthelm-decimal-compare-spec =

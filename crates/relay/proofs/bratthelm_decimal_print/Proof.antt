@@ -30,7 +30,12 @@ print-requires : tie.Need-print-requires
 print-requires c κs = search needs
 
 put-counted-requires : tie.Need-put-counted-requires
-put-counted-requires c κs = (c .before .before .before .before .before .before .before .if1 .left, few-printed (c .before .before .before .before .before .decimal-in .result) (now (c .before .before .before .before .before .before .before .before .before .before .before .args .text)) (c .before .before .print .result) (c .before .before .print .ensures .0))
+put-counted-requires c κs =
+    let a = c .before .before .before .before .before .before .before .before .before .before .before .args in
+    let if1 = c .before .before .before .before .before .before .before .if1 in
+    let decimal-in = c .before .before .before .before .before .decimal-in in
+    let print = c .before .before .print in
+    (if1 .left, few-printed (decimal-in .result) (now (a .text)) (print .result) (print .ensures .0))
 
 same-length : tie.Need-same-length
 same-length c = search needs
@@ -41,11 +46,16 @@ same-length-2 c = search needs
 returns-3 : tie.Need-returns-3
 returns-3 c =
     let a = c .before .before .before .before .before .before .before .before .before .before .before .before .before .before .args in
+    let if1 = c .before .before .before .before .before .before .before .before .before .before .if1 in
+    let if2 = c .before .before .before .before .before .before .before .before .before .if2 in
+    let decimal-in = c .before .before .before .before .before .before .before .before .decimal-in in
+    let print = c .before .before .before .before .before .print in
+    let put-counted = c .before .before .put-counted in
     let xs = now (a .decimal) in
     let text = now (a .text) in
     let out = now (a .answer) in (
-      same-told (printed-some xs text out (c .before .before .before .before .before .before .before .before .before .if2 .left) (c .before .before .before .before .before .before .before .before .decimal-in .ensures) (c .before .before .before .before .before .print .ensures .0)) (c .before .before .put-counted .ensures),
-      text-left xs text out (c .before .before .before .before .before .before .before .before .before .before .if1 .left) (held-some xs text _ (c .before .before .before .before .before .before .before .before .before .if2 .left) (c .before .before .before .before .before .before .before .before .decimal-in .ensures) (c .before .before .before .before .before .print .ensures .1)),
+      same-told (printed-some xs text out (if2 .left) (decimal-in .ensures) (print .ensures .0)) (put-counted .ensures),
+      text-left xs text out (if1 .left) (held-some xs text _ (if2 .left) (decimal-in .ensures) (print .ensures .1)),
     )
 
 pub bratthelm-decimal-print-spec : {M : Type 1} → statement M

@@ -15,7 +15,11 @@ read-bin-requires : tie.Need-read-bin-requires
 read-bin-requires c κs = search needs
 
 put-answer-requires : tie.Need-put-answer-requires
-put-answer-requires c κs = let a = c .before .before .before .before .args in narrow (c .read-bin .ensures) (read-formed (now (a .bytes)) (a .precision) (a .scale) (flag (a .keep)) (λ k. c .before .before .before .shared-slice-known .given k .fits))
+put-answer-requires c κs =
+    let a = c .before .before .before .before .args in
+    let shared-slice-known = c .before .before .before .shared-slice-known in
+    let read-bin = c .read-bin in
+    narrow (read-bin .ensures) (read-formed (now (a .bytes)) (a .precision) (a .scale) (flag (a .keep)) (λ k. shared-slice-known .given k .fits))
 
 same-length : tie.Need-same-length
 same-length c = search needs

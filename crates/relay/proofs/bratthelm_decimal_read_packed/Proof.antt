@@ -15,7 +15,11 @@ read-packed-requires : tie.Need-read-packed-requires
 read-packed-requires c κs = search needs
 
 put-answer-requires : tie.Need-put-answer-requires
-put-answer-requires c κs = narrow (c .read-packed .ensures) (packed-formed (now (c .before .before .before .before .args .bytes)) (flag (c .before .before .before .before .args .keep)) (λ k. c .before .before .before .shared-slice-known .given k .fits))
+put-answer-requires c κs =
+    let a = c .before .before .before .before .args in
+    let shared-slice-known = c .before .before .before .shared-slice-known in
+    let read-packed = c .read-packed in
+    narrow (read-packed .ensures) (packed-formed (now (a .bytes)) (flag (a .keep)) (λ k. shared-slice-known .given k .fits))
 
 same-length : tie.Need-same-length
 same-length c = search needs

@@ -30,7 +30,12 @@ write-bin-requires : tie.Need-write-bin-requires
 write-bin-requires c κs = search needs
 
 put-counted-requires : tie.Need-put-counted-requires
-put-counted-requires c κs = (c .before .before .before .before .before .before .before .if1 .left, few-written (c .before .before .before .before .before .decimal-in .result) (now (c .before .before .before .before .before .before .before .before .before .before .before .args .bytes)) (c .before .before .write-bin .result) (c .before .before .write-bin .ensures .0))
+put-counted-requires c κs =
+    let a = c .before .before .before .before .before .before .before .before .before .before .before .args in
+    let if1 = c .before .before .before .before .before .before .before .if1 in
+    let decimal-in = c .before .before .before .before .before .decimal-in in
+    let write-bin = c .before .before .write-bin in
+    (if1 .left, few-written (decimal-in .result) (now (a .bytes)) (write-bin .result) (write-bin .ensures .0))
 
 same-length : tie.Need-same-length
 same-length c = search needs
@@ -41,11 +46,16 @@ same-length-2 c = search needs
 returns-3 : tie.Need-returns-3
 returns-3 c =
     let a = c .before .before .before .before .before .before .before .before .before .before .before .before .before .before .args in
+    let if1 = c .before .before .before .before .before .before .before .before .before .before .if1 in
+    let if2 = c .before .before .before .before .before .before .before .before .before .if2 in
+    let decimal-in = c .before .before .before .before .before .before .before .before .decimal-in in
+    let write-bin = c .before .before .before .before .before .write-bin in
+    let put-counted = c .before .before .put-counted in
     let xs = now (a .decimal) in
     let bytes = now (a .bytes) in
     let out = now (a .answer) in (
-      same-told (written-some xs bytes out (c .before .before .before .before .before .before .before .before .before .if2 .left) (c .before .before .before .before .before .before .before .before .decimal-in .ensures) (c .before .before .before .before .before .write-bin .ensures .0)) (c .before .before .put-counted .ensures),
-      bytes-left xs bytes out (c .before .before .before .before .before .before .before .before .before .before .if1 .left) (held-some xs bytes _ (c .before .before .before .before .before .before .before .before .before .if2 .left) (c .before .before .before .before .before .before .before .before .decimal-in .ensures) (c .before .before .before .before .before .write-bin .ensures .1)),
+      same-told (written-some xs bytes out (if2 .left) (decimal-in .ensures) (write-bin .ensures .0)) (put-counted .ensures),
+      bytes-left xs bytes out (if1 .left) (held-some xs bytes _ (if2 .left) (decimal-in .ensures) (write-bin .ensures .1)),
     )
 
 pub bratthelm-decimal-write-bin-spec : {M : Type 1} → statement M

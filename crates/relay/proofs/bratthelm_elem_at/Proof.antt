@@ -25,7 +25,10 @@ same-length c = search needs
 returns : tie.Need-returns
 returns c =
     let a = c .before .before .before .before .before .before .before .before .args in
-    same-told (ap valueTold (c .before .before .before .elem-at .ensures ∙ ap (λ (v : View). elemAt (now (a .doc)) v (a .pos)) (c .before .before .before .before .view-by .ensures))) (c .before .before .put-found .ensures)
+    let view-by = c .before .before .before .before .view-by in
+    let elem-at = c .before .before .before .elem-at in
+    let put-found = c .before .before .put-found in
+    same-told (ap valueTold (elem-at .ensures ∙ ap (λ (v : View). elemAt (now (a .doc)) v (a .pos)) (view-by .ensures))) (put-found .ensures)
 
 pub bratthelm-elem-at-spec : {M : Type 1} → statement M
 bratthelm-elem-at-spec =

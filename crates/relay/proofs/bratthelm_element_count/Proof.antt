@@ -22,7 +22,12 @@ same-length : tie.Need-same-length
 same-length c = search needs
 
 returns : tie.Need-returns
-returns c = same-told (ap countTold (c .before .before .before .element-count .ensures ∙ ap (countAt (now (c .before .before .before .before .before .before .before .before .args .doc))) (c .before .before .before .before .view-by .ensures))) (c .before .before .put-count .ensures)
+returns c =
+    let a = c .before .before .before .before .before .before .before .before .args in
+    let view-by = c .before .before .before .before .view-by in
+    let element-count = c .before .before .before .element-count in
+    let put-count = c .before .before .put-count in
+    same-told (ap countTold (element-count .ensures ∙ ap (countAt (now (a .doc))) (view-by .ensures))) (put-count .ensures)
 
 pub bratthelm-element-count-spec : {M : Type 1} → statement M
 bratthelm-element-count-spec =

@@ -25,7 +25,10 @@ same-length c = search needs
 returns : tie.Need-returns
 returns c =
     let a = c .before .before .before .before .before .before .before .before .args in
-    same-told (ap keyTold (c .before .before .before .key-at .ensures ∙ ap (λ (v : View). keyAt (now (a .doc)) v (a .pos)) (c .before .before .before .before .view-by .ensures))) (c .before .before .put-key .ensures)
+    let view-by = c .before .before .before .before .view-by in
+    let key-at = c .before .before .before .key-at in
+    let put-key = c .before .before .put-key in
+    same-told (ap keyTold (key-at .ensures ∙ ap (λ (v : View). keyAt (now (a .doc)) v (a .pos)) (view-by .ensures))) (put-key .ensures)
 
 pub bratthelm-key-at-spec : {M : Type 1} → statement M
 bratthelm-key-at-spec =

@@ -21,7 +21,11 @@ same-length : tie.Need-same-length
 same-length c = search needs
 
 returns : tie.Need-returns
-returns c = same-told (ap valueTold (c .before .before .before .found-of .ensures ∙ ap readSaid (c .before .before .before .before .deserialize .ensures))) (c .before .before .put-found .ensures)
+returns c =
+    let deserialize = c .before .before .before .before .deserialize in
+    let found-of = c .before .before .before .found-of in
+    let put-found = c .before .before .put-found in
+    same-told (ap valueTold (found-of .ensures ∙ ap readSaid (deserialize .ensures))) (put-found .ensures)
 
 pub bratthelm-root-spec : {M : Type 1} → statement M
 bratthelm-root-spec =

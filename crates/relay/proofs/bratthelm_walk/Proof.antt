@@ -16,7 +16,11 @@ walk-requires : tie.Need-walk-requires
 walk-requires c κs = search needs
 
 put-walked-requires : tie.Need-put-walked-requires
-put-walked-requires c κs = (c .before .before .before .before .before .if1 .left, small (now (c .before .before .before .before .before .before .before .before .before .args .doc)) (now (c .before .before .before .before .before .before .before .before .before .args .events)) (c .before .before .walk .result) _ (c .before .before .walk .ensures))
+put-walked-requires c κs =
+    let a = c .before .before .before .before .before .before .before .before .before .args in
+    let if1 = c .before .before .before .before .before .if1 in
+    let walk = c .before .before .walk in
+    (if1 .left, small (now (a .doc)) (now (a .events)) (walk .result) _ (walk .ensures))
 
 same-length : tie.Need-same-length
 same-length c = search needs
@@ -26,7 +30,11 @@ same-length-2 c = search needs
 
 returns-2 : tie.Need-returns-2
 unfolding walkTold
-returns-2 c = (same-told (ap endTold (c .before .before .before .before .before .walk .ensures .answer)) (c .before .before .put-walked .ensures), changed 2 _ _ _ (c .before .before .before .before .before .before .before .before .if1 .left) (walked _ _ (c .before .before .before .before .before .walk .ensures)))
+returns-2 c =
+    let if1 = c .before .before .before .before .before .before .before .before .if1 in
+    let walk = c .before .before .before .before .before .walk in
+    let put-walked = c .before .before .put-walked in
+    (same-told (ap endTold (walk .ensures .answer)) (put-walked .ensures), changed 2 _ _ _ (if1 .left) (walked _ _ (walk .ensures)))
 
 pub bratthelm-walk-spec : {M : Type 1} → statement M
 bratthelm-walk-spec =

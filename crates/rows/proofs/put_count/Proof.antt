@@ -30,10 +30,18 @@ same-length : tie.Need-same-length
 same-length c = search needs
 
 returns-2 : tie.Need-returns-2
-returns-2 c = stores 1 _ (c .before .before .before .if1 .left) (ap (λ (c : Count). countTold (countSaid c)) (sym (c .before .c .given .1))) refl (front (c .before .c .given .0 .0 ∷ []) (now (c .before .before .before .before .before .args .answer)) (c .before .before .before .if1 .left))
+returns-2 c =
+    let a = c .before .before .before .before .before .args in
+    let if1 = c .before .before .before .if1 in
+    let is = c .before .c in
+    stores 1 _ (if1 .left) (ap (λ (c : Count). countTold (countSaid c)) (sym (is .given .1))) refl (front (is .given .0 .0 ∷ []) (now (a .answer)) (if1 .left))
 
 returns-3 : tie.Need-returns-3
-returns-3 c = stores-none 1 _ (c .before .before .before .before .if1 .left) (ap (λ (c : Count). countTold (countSaid c)) (sym (c .before .before .c2 .given .1))) (c .widen .ensures)
+returns-3 c =
+    let if1 = c .before .before .before .before .if1 in
+    let is2 = c .before .before .c2 in
+    let widen = c .widen in
+    stores-none 1 _ (if1 .left) (ap (λ (c : Count). countTold (countSaid c)) (sym (is2 .given .1))) (widen .ensures)
 
 pub put-count-spec : {M : Type 1} → statement M
 put-count-spec =

@@ -34,16 +34,28 @@ same-length : tie.Need-same-length
 same-length c = search needs
 
 returns-2 : tie.Need-returns-2
-returns-2 c = stores 5 _ (c .before .before .before .before .before .before .before .if1 .left) (ap (λ (f : Found). valueTold (foundSaid f)) (sym (c .before .before .before .before .before .f .given .1))) refl (c .before .before .put-value .ensures)
+returns-2 c =
+    let if1 = c .before .before .before .before .before .before .before .if1 in
+    let f = c .before .before .before .before .before .f in
+    let put-value = c .before .before .put-value in
+    stores 5 _ (if1 .left) (ap (λ (f : Found). valueTold (foundSaid f)) (sym (f .given .1))) refl (put-value .ensures)
 
 same-length-2 : tie.Need-same-length-2
 same-length-2 c = search needs
 
 returns-3 : tie.Need-returns-3
-returns-3 c = stores 5 _ (c .before .before .before .before .before .before .if1 .left) (ap (λ (f : Found). valueTold (foundSaid f)) (sym (c .before .before .before .before .enum-told .given .1))) refl (c .before .before .put-five .ensures)
+returns-3 c =
+    let if1 = c .before .before .before .before .before .before .if1 in
+    let enum-told = c .before .before .before .before .enum-told in
+    let put-five = c .before .before .put-five in
+    stores 5 _ (if1 .left) (ap (λ (f : Found). valueTold (foundSaid f)) (sym (enum-told .given .1))) refl (put-five .ensures)
 
 returns-4 : tie.Need-returns-4
-returns-4 c = stores-none 5 _ (c .before .before .before .before .if1 .left) (ap (λ (f : Found). valueTold (foundSaid f)) (sym (c .before .before .f2 .given .1))) (c .widen .ensures)
+returns-4 c =
+    let if1 = c .before .before .before .before .if1 in
+    let f2 = c .before .before .f2 in
+    let widen = c .widen in
+    stores-none 5 _ (if1 .left) (ap (λ (f : Found). valueTold (foundSaid f)) (sym (f2 .given .1))) (widen .ensures)
 
 pub put-found-spec : {M : Type 1} → statement M
 put-found-spec =

@@ -34,16 +34,28 @@ same-length : tie.Need-same-length
 same-length c = search needs
 
 returns-2 : tie.Need-returns-2
-returns-2 c = stores 3 _ (c .before .before .before .before .before .before .before .if1 .left) (ap (λ (k : Key). keyTold (keySaid k)) (sym (c .before .before .before .before .before .k .given .1))) refl (c .before .before .put-three .ensures)
+returns-2 c =
+    let if1 = c .before .before .before .before .before .before .before .if1 in
+    let k = c .before .before .before .before .before .k in
+    let put-three = c .before .before .put-three in
+    stores 3 _ (if1 .left) (ap (λ (k : Key). keyTold (keySaid k)) (sym (k .given .1))) refl (put-three .ensures)
 
 same-length-2 : tie.Need-same-length-2
 same-length-2 c = search needs
 
 returns-3 : tie.Need-returns-3
-returns-3 c = stores 3 _ (c .before .before .before .before .before .before .if1 .left) (ap (λ (k : Key). keyTold (keySaid k)) (sym (c .before .before .before .before .enum-told .given .1))) refl (c .before .before .put-three2 .ensures)
+returns-3 c =
+    let if1 = c .before .before .before .before .before .before .if1 in
+    let enum-told = c .before .before .before .before .enum-told in
+    let put-three2 = c .before .before .put-three2 in
+    stores 3 _ (if1 .left) (ap (λ (k : Key). keyTold (keySaid k)) (sym (enum-told .given .1))) refl (put-three2 .ensures)
 
 returns-4 : tie.Need-returns-4
-returns-4 c = stores-none 3 _ (c .before .before .before .before .if1 .left) (ap (λ (k : Key). keyTold (keySaid k)) (sym (c .before .before .k2 .given .1))) (c .widen .ensures)
+returns-4 c =
+    let if1 = c .before .before .before .before .if1 in
+    let k2 = c .before .before .k2 in
+    let widen = c .widen in
+    stores-none 3 _ (if1 .left) (ap (λ (k : Key). keyTold (keySaid k)) (sym (k2 .given .1))) (widen .ensures)
 
 pub put-key-spec : {M : Type 1} → statement M
 put-key-spec =

@@ -30,11 +30,18 @@ same-length c = search needs
 
 returns : tie.Need-returns
 returns c =
-    let out = now (c .before .before .before .before .before .before .before .before .args .answer) in
-    c .before .before .put-five .ensures
-    ∙ ap (λ (k : ℕ). laid (k ∷ c .before .before .before .before .before .before .event-of .result .code ∷ c .before .before .before .before .before .holds .result .start ∷ c .before .before .before .before .before .holds .result .len ∷ c .before .before .before .before .before .before .event-of .result .extra ∷ []) out) (c .before .before .before .kind-of .ensures)
-    ∙ ap (λ (e : Event). laid (kindOf (c .before .before .before .before .before .before .before .before .args .x) ∷ e .code ∷ c .before .before .before .before .before .holds .result .start ∷ c .before .before .before .before .before .holds .result .len ∷ e .extra ∷ []) out) (c .before .before .before .before .before .before .event-of .ensures)
-    ∙ ap (λ (s : Span). laid (kindOf (c .before .before .before .before .before .before .before .before .args .x) ∷ codeOf (c .before .before .before .before .before .before .before .before .args .x) ∷ s .start ∷ s .len ∷ extraOf (c .before .before .before .before .before .before .before .before .args .x) ∷ []) out) (c .before .before .before .before .before .holds .ensures)
+    let a = c .before .before .before .before .before .before .before .before .args in
+    let event-of = c .before .before .before .before .before .before .event-of in
+    let holds = c .before .before .before .before .before .holds in
+    let kind-of = c .before .before .before .kind-of in
+    let put-five = c .before .before .put-five in
+    let out = now (a .answer) in
+    let h = holds .result in
+    let e = event-of .result in
+    put-five .ensures
+    ∙ ap (λ (k : ℕ). laid (k ∷ e .code ∷ h .start ∷ h .len ∷ e .extra ∷ []) out) (kind-of .ensures)
+    ∙ ap (λ (v : Event). laid (kindOf (a .x) ∷ v .code ∷ h .start ∷ h .len ∷ v .extra ∷ []) out) (event-of .ensures)
+    ∙ ap (λ (s : Span). laid (kindOf (a .x) ∷ codeOf (a .x) ∷ s .start ∷ s .len ∷ extraOf (a .x) ∷ []) out) (holds .ensures)
 
 pub put-value-spec : {M : Type 1} → statement M
 put-value-spec =

@@ -51,7 +51,11 @@ shared-slice-read-t28 c = search needs
 
 returns : tie.Need-returns
 unfolding tab
-returns c = decimal-is (now (c .before .before .before .before .before .before .before .before .before .before .before .before .before .before .before .args .xs)) (c .before .before .before .before .before .before .before .before .before .before .before .before .wide .ensures) (c .before .before .before .before .before .before .before .before .before .before .wide2 .ensures)
+returns c =
+    let a = c .before .before .before .before .before .before .before .before .before .before .before .before .before .before .before .args in
+    let wide = c .before .before .before .before .before .before .before .before .before .before .before .before .wide in
+    let wide2 = c .before .before .before .before .before .before .before .before .before .before .wide2 in
+    decimal-is (now (a .xs)) (wide .ensures) (wide2 .ensures)
 
 pub decimal-in-spec : {M : Type 1} → statement M
 decimal-in-spec =

@@ -14,7 +14,11 @@ cast-result : tie.Need-cast-result
 cast-result c = search needs
 
 returns-2 : tie.Need-returns-2
-returns-2 c = stores-none 12 _ (c .before .before .before .if1 .left) (told-refused (c .before .before .before .before .before .args .a) (c .before .if2 .taken)) refl
+returns-2 c =
+    let a = c .before .before .before .before .before .args in
+    let if1 = c .before .before .before .if1 in
+    let if2 = c .before .if2 in
+    stores-none 12 _ (if1 .left) (told-refused (a .a) (if2 .taken)) refl
 
 put-decimal-requires : tie.Need-put-decimal-requires
 put-decimal-requires c κs = search needs
@@ -23,7 +27,12 @@ same-length : tie.Need-same-length
 same-length c = search needs
 
 returns-3 : tie.Need-returns-3
-returns-3 c = stores 12 _ (c .before .before .before .before .before .before .before .if1 .left) (told-accepted (c .before .before .before .before .before .before .before .before .before .args .a) (c .before .before .before .before .before .if2 .left)) refl (c .before .before .put-decimal .ensures)
+returns-3 c =
+    let a = c .before .before .before .before .before .before .before .before .before .args in
+    let if1 = c .before .before .before .before .before .before .before .if1 in
+    let if2 = c .before .before .before .before .before .if2 in
+    let put-decimal = c .before .before .put-decimal in
+    stores 12 _ (if1 .left) (told-accepted (a .a) (if2 .left)) refl (put-decimal .ensures)
 
 pub put-answer-spec : {M : Type 1} → statement M
 put-answer-spec =

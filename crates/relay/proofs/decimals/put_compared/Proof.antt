@@ -35,19 +35,31 @@ same-length : tie.Need-same-length
 same-length c = search needs
 
 returns : tie.Need-returns
-returns c = stores 1 _ (c .before .before .before .before .before .before .before .pre) (ap told (sym (c .before .before .before .before .enum-told .given .1))) (c .before .before .put-order .ensures .0) (c .before .before .put-order .ensures .1)
+returns c =
+    let pre = c .before .before .before .before .before .before .before .pre in
+    let enum-told = c .before .before .before .before .enum-told in
+    let put-order = c .before .before .put-order in
+    stores 1 _ (pre) (ap told (sym (enum-told .given .1))) (put-order .ensures .0) (put-order .ensures .1)
 
 same-length-2 : tie.Need-same-length-2
 same-length-2 c = search needs
 
 returns-2 : tie.Need-returns-2
-returns-2 c = stores 1 _ (c .before .before .before .before .before .before .before .pre) (ap told (sym (c .before .before .before .before .enum-told2 .given .1))) (c .before .before .put-order2 .ensures .0) (c .before .before .put-order2 .ensures .1)
+returns-2 c =
+    let pre = c .before .before .before .before .before .before .before .pre in
+    let enum-told2 = c .before .before .before .before .enum-told2 in
+    let put-order2 = c .before .before .put-order2 in
+    stores 1 _ (pre) (ap told (sym (enum-told2 .given .1))) (put-order2 .ensures .0) (put-order2 .ensures .1)
 
 same-length-3 : tie.Need-same-length-3
 same-length-3 c = search needs
 
 returns-3 : tie.Need-returns-3
-returns-3 c = stores 1 _ (c .before .before .before .before .before .before .before .pre) (ap told (sym (c .before .before .before .before .enum-told3 .given .1))) (c .before .before .put-order3 .ensures .0) (c .before .before .put-order3 .ensures .1)
+returns-3 c =
+    let pre = c .before .before .before .before .before .before .before .pre in
+    let enum-told3 = c .before .before .before .before .enum-told3 in
+    let put-order3 = c .before .before .put-order3 in
+    stores 1 _ (pre) (ap told (sym (enum-told3 .given .1))) (put-order3 .ensures .0) (put-order3 .ensures .1)
 
 returns-4 : tie.Need-returns-4
 returns-4 c = stores-none 1 _ (c .before .before .before .before .pre) (ap told (sym (c .before .c .given .1))) refl

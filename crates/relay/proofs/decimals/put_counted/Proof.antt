@@ -29,7 +29,11 @@ same-length : tie.Need-same-length
 same-length c = search needs
 
 returns : tie.Need-returns
-returns c = stores 1 _ (c .before .before .before .pre .0) (ap told (sym (c .before .c .given .1))) refl (front (c .before .c .given .0 .0 ∷ []) (now (c .before .before .before .args .answer)) (c .before .before .before .pre .0))
+returns c =
+    let pre = c .before .before .before .pre in
+    let a = c .before .before .before .args in
+    let is = c .before .c in
+    stores 1 _ (pre .0) (ap told (sym (is .given .1))) refl (front (is .given .0 .0 ∷ []) (now (a .answer)) (pre .0))
 
 returns-2 : tie.Need-returns-2
 returns-2 c = stores-none 1 _ (c .before .before .before .pre .0) (ap told (sym (c .before .c2 .given .1))) refl

@@ -37,13 +37,21 @@ same-length : tie.Need-same-length
 same-length c = search needs
 
 returns : tie.Need-returns
-returns c = stores 2 _ (c .before .before .before .before .before .before .before .before .pre .0) (ap (λ (w : Walked). endTold (told w)) (sym (c .before .before .before .before .before .w .given .1))) refl (c .before .before .put-two .ensures)
+returns c =
+    let pre = c .before .before .before .before .before .before .before .before .pre in
+    let w = c .before .before .before .before .before .w in
+    let put-two = c .before .before .put-two in
+    stores 2 _ (pre .0) (ap (λ (w : Walked). endTold (told w)) (sym (w .given .1))) refl (put-two .ensures)
 
 same-length-2 : tie.Need-same-length-2
 same-length-2 c = search needs
 
 returns-2 : tie.Need-returns-2
-returns-2 c = stores 2 _ (c .before .before .before .before .before .before .before .before .pre .0) (ap (λ (w : Walked). endTold (told w)) (sym (c .before .before .before .before .before .w2 .given .1))) refl (c .before .before .put-two2 .ensures)
+returns-2 c =
+    let pre = c .before .before .before .before .before .before .before .before .pre in
+    let w2 = c .before .before .before .before .before .w2 in
+    let put-two2 = c .before .before .put-two2 in
+    stores 2 _ (pre .0) (ap (λ (w : Walked). endTold (told w)) (sym (w2 .given .1))) refl (put-two2 .ensures)
 
 pub put-walked-spec : {M : Type 1} → statement M
 put-walked-spec =

@@ -28,7 +28,10 @@ enum-known-x-4 : tie.Need-enum-known-x-4
 enum-known-x-4 c = search needs
 
 returns : tie.Need-returns
-returns c = c .signed-bits .ensures ∙ ap (ofZ w64) (toZ-ofZ {w = w64} {z = c .before .before .x .given .0 .0} (record { sfits = c .before .known-told .given .0 .1 })) ∙ ap bitsOf (sym (c .before .before .x .given .1))
+returns c =
+    let x = c .before .before .x in
+    let known = c .before .known-told in
+    c .signed-bits .ensures ∙ ap (ofZ w64) (toZ-ofZ {w = w64} {z = x .given .0 .0} (record { sfits = known .given .0 .1 })) ∙ ap bitsOf (sym (x .given .1))
 
 returns-2 : tie.Need-returns-2
 returns-2 c = search needs

@@ -39,7 +39,9 @@ returns-2 : tie.Need-returns-2
 returns-2 c = ap (λ (n : ℕ). span n 0) (c .one .ensures) ∙ ap scalarHolds (sym (c .before .before .s .given .1))
 
 returns-3 : tie.Need-returns-3
-returns-3 c = c .halves .ensures ∙ ap (λ (n : ℕ). span (low n) (high n)) (c .before .bits-of .ensures) ∙ ap scalarHolds (sym (c .before .before .before .s2 .given .1))
+returns-3 c =
+    let s = c .before .before .before .s2 in
+    c .halves .ensures ∙ ap (λ (n : ℕ). span (low n) (high n)) (c .before .bits-of .ensures) ∙ ap scalarHolds (sym (s .given .1))
 
 returns-4 : tie.Need-returns-4
 returns-4 c = search needs
