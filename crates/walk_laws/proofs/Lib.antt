@@ -7,3 +7,4 @@ pub mod Stops
 pub mod Theorem
 pub mod Corollaries
 pub mod Numbers
+pub mod Small

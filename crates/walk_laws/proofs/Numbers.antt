@@ -252,12 +252,12 @@ key-faults d v i =
     (both Keyed (ltb (v .size) (keyOffset d v (keyPlaceAt v i) + keyLength d v (keyPlaceAt v i))) refl tt)
 
 -- ---- a path below the root leads to an entry of a whole container
-record Entry (d : List ℕ) (s : Stand) : Type 0 where
-  view : View
-  position : ℕ
-  whole : Stands d view
-  below : position < view .count
-  is : child d view position ≡ s
+pub record Entry (d : List ℕ) (s : Stand) : Type 0 where
+  pub view : View
+  pub position : ℕ
+  pub whole : Stands d view
+  pub below : position < view .count
+  pub is : child d view position ≡ s
 
 entry-of : (d : List ℕ) (x : Said Value) → SaidStands d x → (i : ℕ) → i < countIn x → Entry d (child d (viewIn x) i)
 entry-of d (says (value.Scalar t s)) w i h = absurd (omega arith)
@@ -270,7 +270,7 @@ entry-below n w here = n
 entry-below {d} {s = s} n w (down {i = i} h b) =
     entry-below (entry-of d (s .value) w i h) (elem-stands d (viewIn (s .value)) i) b
 
-leads-entry : {d : List ℕ} {i : ℕ} {π : List ℕ} {s : Stand} → Leads d (i ∷ π) s → Entry d s
+pub leads-entry : {d : List ℕ} {i : ℕ} {π : List ℕ} {s : Stand} → Leads d (i ∷ π) s → Entry d s
 leads-entry {d} (down {i = i} h b) =
     entry-below (entry-of d (rootStand d .value) (root-stands d) i h) (elem-stands d (viewIn (rootStand d .value)) i) b
 

@@ -1,0 +1,51 @@
+-- What a walk answers fits into 32 bits, and a view of no kind is no document's.
+-- Assumes nothing.
+use mathlib.Core.Path.{_≡_, refl, ap, _∙_}
+use mathlib.Core.Bool.{Bool, true, false, cond}
+use mathlib.Core.List.{List}
+use Prim.Native.Nat.{ℕ, _≤_, _<_}
+use native.Mathlib.Omega.{arith}
+use lib.ListN.{length}
+use borrow.Author.Tests.{lt-ltb, le-ltb}
+use Rattle.layout.proofs.Cond.{yes, no}
+use Rattle.content.specs.Reading.{placeFault, headerRead, headerAt}
+use Rattle.content.specs.declared.Header.{Header}
+use Rattle.content.specs.declared.Header.the-variants as header
+use Rattle.gate.specs.Said.{Said, refuses}
+use Rattle.gate.specs.Before.{names, matches, gated}
+use Rattle.events.specs.declared.Walked.{Walked}
+use Rattle.events.specs.declared.Walked.the-variants.{Done, Stopped}
+use Rattle.walk.specs.Shown.{Walks}
+use Rattle.walk_laws.proofs.Small.{done-small, stopped-small, stopped-near}
+use Rattle.value.specs.declared.View.{View}
+use Rattle.relay.specs.Documents.{kindBy, nowhere, viewBy, endTold, walkTold, walkLeaves, Small}
+
+-- ---- a view by its numbers
+module _ (c start size count : ℕ) where
+  pub no-kind : 3 < c → nowhere ≡ viewBy c start size count
+  unfolding viewBy
+  no-kind h = yes _ (lt-ltb 3 c h) refl
+
+  pub a-kind : {v : View} → c ≤ 3 → v ≡ record { start = start; size = size; count = count; kind = kindBy c } → v ≡ viewBy c start size count
+  unfolding viewBy
+  a-kind h e = no _ (le-ltb 3 c h) e
+
+-- one of no kind is refused by 13 in every document within the limit, whatever is asked
+pub nowhere-matches : (d : List ℕ) → length d ≤ 16777216 → matches d nowhere ≡ false
+unfolding matches headerRead placeFault
+nowhere-matches d h = rw (le-ltb 16777216 (length d) h, le-ltb (length d) (length d) (omega arith), lt-ltb (length d) 4294967295 (omega arith))
+
+pub nowhere-13 : {A : Type 0} (d : List ℕ) (asked : Bool) (i : ℕ) (x : Said A) → length d ≤ 16777216 → gated d nowhere asked i x ≡ refuses 13
+unfolding gated
+nowhere-13 d true i x h = rw (le-ltb 16777216 (length d) h, nowhere-matches d h)
+nowhere-13 d false i x h = rw (le-ltb 16777216 (length d) h)
+
+-- ---- a walk
+module _ (d out : List ℕ) where
+  pub small : (w : Walked) (left : List ℕ) → Walks d out w left → Small w
+  small (Done n) left p = omega (arith, done-small d out n left p)
+  small (Stopped f q n) left p = (omega (arith, stopped-near d out f q n left p), omega (arith, stopped-small d out f q n left p))
+
+  pub walked : {w : Walked} {left : List ℕ} → Walks d out w left → left ≡ walkLeaves d out
+  unfolding walkLeaves
+  walked p = p .leaves

@@ -1,0 +1,35 @@
+-- The key that is found by the view is put.
+-- Assumes nothing.
+use denote.Ref.{now}
+use mathlib.Core.Path.{ap, _∙_}
+use Rattle.value.specs.declared.View.{View}
+use Rattle.jsonb.specs.Views.{keyAt}
+use Rattle.rows.specs.Rows.{keyTold}
+use Rattle.rows.proofs.Puts.{same-told}
+use borrow.Author.Needs.{needs}
+use Rattle.relay.proofs.bratthelm_key_at.Statement.{statement}
+use Rattle.relay.proofs.bratthelm_key_at.Tie as tie
+
+view-by-requires : tie.Need-view-by-requires
+view-by-requires c κs = search needs
+
+key-at-requires : tie.Need-key-at-requires
+key-at-requires c κs = search needs
+
+put-key-requires : tie.Need-put-key-requires
+put-key-requires c κs = search needs
+
+same-length : tie.Need-same-length
+same-length c = search needs
+
+returns : tie.Need-returns
+returns c =
+    let a = c .before .before .before .before .before .before .before .before .args in
+    let view-by = c .before .before .before .before .view-by in
+    let key-at = c .before .before .before .key-at in
+    let put-key = c .before .before .put-key in
+    same-told (ap keyTold (key-at .ensures ∙ ap (λ (v : View). keyAt (now (a .doc)) v (a .pos)) (view-by .ensures))) (put-key .ensures)
+
+pub bratthelm-key-at-spec : {M : Type 1} → statement M
+bratthelm-key-at-spec =
+    tie.close (tie.spec view-by-requires key-at-requires put-key-requires same-length returns)
