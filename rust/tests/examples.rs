@@ -346,6 +346,8 @@ fn decimals_by_their_numbers() {
 fn display_meets_a_width_and_leaves_no_digit_out() {
     let price = parsed("-12.34");
     assert_eq!(format!("[{price}] [{price:8}] [{price:<8}] [{price:08}] [{price:.1}]"), "[-12.34] [  -12.34] [-12.34  ] [-0012.34] [-12.34]");
+    let price = parsed("12.34");
+    assert_eq!(format!("[{price}] [{price:8}] [{price:<8}] [{price:08}] [{price:.1}]"), "[12.34] [   12.34] [12.34   ] [00012.34] [12.34]");
     assert_eq!(Refusal::Utf8.to_string(), "9: a key or a string is not UTF-8");
     let stopped = Stopped { refusal: Refusal::Utf8, place: 9, count: 1 };
     assert_eq!(stopped.to_string(), "9: a key or a string is not UTF-8, at byte 9, after 1 events");
