@@ -9,3 +9,4 @@ pub mod Places
 pub mod Store
 pub mod Room
 pub mod Opened
+pub mod Caps

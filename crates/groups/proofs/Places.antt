@@ -41,10 +41,10 @@ digits-le i f k = go (ltb k (groupsOf i))
     go false = min-le-left 9 _
 
 -- what is stored has at most nine digits
-pow-pos10 : (n : ℕ) → 0 < 10 ^ n
+pub pow-pos10 : (n : ℕ) → 0 < 10 ^ n
 pow-pos10 n = le-trans (le-refl 1) (pow-le-pow-right (lit< tt) {i = 0} {j = n} (omega arith))
 
-nine : (d : ℕ) → d ≤ 9 → 10 ^ d * 10 ^ (9 - d) ≡ 1000000000
+pub nine : (d : ℕ) → d ≤ 9 → 10 ^ d * 10 ^ (9 - d) ≡ 1000000000
 nine d h = sym (pow-add 10 d (9 - d)) ∙ ap (λ (n : ℕ). 10 ^ n) (let e : d + (9 - d) ≡ 9 = omega arith in e)
 
 pub unit-pos : (i k d : ℕ) → 0 < unitOf i k d

@@ -10,19 +10,6 @@ ghost use Rattle.groups.specs.Write.{told, sizeOf};
 // The bytes of a group of as many digits.
 const DIG_TO_BYTES: [usize; 10] = [0, 1, 1, 2, 2, 3, 3, 4, 4, 4];
 
-const POWERS_10: [u32; 10] = [
-    1,
-    10,
-    100,
-    1000,
-    10000,
-    100000,
-    1000000,
-    10000000,
-    100000000,
-    1000000000,
-];
-
 pub(crate) fn width_of(d: usize) -> usize
     requires { ⌜ d ≤ 9 ⌝ }
     ensures { λ r. ⌜ (r ≡ width d) × (r ≤ 4) ⌝ }
@@ -30,11 +17,23 @@ pub(crate) fn width_of(d: usize) -> usize
     DIG_TO_BYTES[d]
 }
 
+// 10 to the d. (A match is a table in the program; an array would be laid out anew at each call.)
 pub(crate) fn power(d: usize) -> u32
     requires { ⌜ d ≤ 9 ⌝ }
     ensures { λ r. ⌜ (r ≡ 10 ^ d) × ((r ≤ 1000000000) × (0 < r)) ⌝ }
 {
-    POWERS_10[d]
+    match d {
+        0 => 1,
+        1 => 10,
+        2 => 100,
+        3 => 1000,
+        4 => 10000,
+        5 => 100000,
+        6 => 1000000,
+        7 => 10000000,
+        8 => 100000000,
+        _ => 1000000000,
+    }
 }
 
 // The digits of the j-th group from the point, of a side of n digits.

@@ -1,32 +1,49 @@
 // Which records are decimals.
-use super::layout::digits_at;
 use super::layout::power;
-use super::layout::unit;
 ghost use mathlib.Core.Path.{_≡_};
-ghost use Prim.Native.Nat.{_≤_};
+ghost use Prim.Native.Nat.{_+_, _≤_};
 ghost use lib.ListN.{getD};
 ghost use Rattle.groups.specs.Numbers.{all};
+ghost use Rattle.groups.specs.Course.{cappedAt};
 ghost use Rattle.groups.specs.Write.{digitsOk, wellAt, wellFormed};
 
-fn well_at(intg: usize, frac: usize, k: usize, g: u32) -> bool
-    requires { ⌜ intg ≤ 65 ⌝ }
-    ensures { λ r. ⌜ r ≡ wellAt intg frac k g ⌝ }
-{
-    let d = digits_at(intg, frac, k);
-    let u = unit(intg, k, d);
-    if g % u == 0 { g / u < power(d) } else { false }
-}
-
-fn all_well(intg: usize, frac: usize, groups: [u32; 9]) -> bool
-    requires { ⌜ intg ≤ 65 ⌝ }
-    ensures { λ r. ⌜ r ≡ all 9 (λ k. wellAt intg frac k (getD groups k 0)) ⌝ }
+// Whether the first t groups have at most nine digits, and the others are 0.
+fn capped(groups: [u32; 9], t: usize) -> bool
+    ensures { λ r. ⌜ r ≡ all 9 (λ k. cappedAt t k (getD groups k 0)) ⌝ }
 {
     for k in 0..9 {
-        if !well_at(intg, frac, k, groups[k]) {
-            return false;
+        if k < t {
+            if groups[k] >= 1000000000 {
+                return false;
+            }
+        } else {
+            if groups[k] != 0 {
+                return false;
+            }
         }
     }
     true
+}
+
+// Only the first group can have fewer digits, and only the last a unit above 1.
+fn all_well(intg: usize, frac: usize, groups: [u32; 9]) -> bool
+    requires { ⌜ (1 ≤ intg + frac) × ((intg + frac ≤ 65) × (frac ≤ 30)) ⌝ }
+    ensures { λ r. ⌜ r ≡ all 9 (λ k. wellAt intg frac k (getD groups k 0)) ⌝ }
+{
+    let n = (intg + 8) / 9;
+    let m = (frac + 8) / 9;
+    if !capped(groups, n + m) {
+        return false;
+    }
+    if groups[0] >= power(intg + 9 - 9 * n) {
+        return false;
+    }
+    let rest = 9 * m - frac;
+    if rest == 0 {
+        true
+    } else {
+        groups[n + m - 1] % power(rest) == 0
+    }
 }
 
 fn digits_ok(intg: usize, frac: usize) -> bool

@@ -1,72 +1,119 @@
--- Every place passed is well formed; the first that is not decides.
+-- The groups that there are have at most nine digits and the others are 0; then the first place and the last decide.
 -- Assumes what the contract requires, and nothing else.
-use borrow.Author.Needs.{needs}
-use borrow.Author.Tests.{not-true, not-false}
-use borrow.Author.Count.{below-none, below-more}
-use Prim.Native.Nat.{ℕ, _≤_, _<_, _-_}
-use mathlib.Core.Path.{_≡_, sym, _∙_}
+use Prim.Native.Nat.{ℕ, _+_, _-_, _*_, _/_, _%_, _^_, _<_, _≤_}
+use mathlib.Core.Path.{_≡_, sym, _∙_, ap}
 use mathlib.Core.Bool.{true}
+use native.Mathlib.Nat.{mod-one}
 use native.Mathlib.Omega.{arith}
 use lib.ListN.{getD}
-use Rattle.groups.specs.Write.{wellAt}
-use Rattle.groups.proofs.Tab.{all-true, all-false}
+use borrow.Author.Needs.{needs}
+use borrow.Author.Tests.{not-true, not-false}
+use Rattle.groups.specs.Layout.{groupsOf}
+use Rattle.groups.proofs.Caps.{not-capped, first-over, all-of, all-is}
 use Rattle.groups.proofs.record.all_well.Statement.{statement}
 use Rattle.groups.proofs.record.all_well.Tie as tie
 
-abbrev Inv-loop : tie.InvT-loop
-Inv-loop intg frac groups k₀ k = (k ≤ 9) × ((j : ℕ) → j < k → wellAt intg frac j (getD groups j 0) ≡ true)
+add-n : tie.Need-add-n
+add-n c = search needs
 
-abbrev μ-loop : tie.MeasureT-loop
-μ-loop intg frac groups k₀ k = 9 - k
+add-m : tie.Need-add-m
+add-m c = search needs
 
-loop-holds : tie.Need-loop-holds Inv-loop μ-loop
-loop-holds c = (search needs, below-none _)
+add-capped : tie.Need-add-capped
+add-capped c = search needs
 
-mul-well-at : tie.Need-mul-well-at Inv-loop μ-loop
-mul-well-at c = omega arith
+capped-requires : tie.Need-capped-requires
+capped-requires c κs = search needs
 
-array-read-well-at : tie.Need-array-read-well-at Inv-loop μ-loop
-array-read-well-at c = omega arith
-
-well-at-requires : tie.Need-well-at-requires Inv-loop μ-loop
-well-at-requires c κs = omega arith
-
-returns : tie.Need-returns Inv-loop μ-loop
+returns : tie.Need-returns
+unfolding groupsOf
 returns c =
-    let a = c .before .before .before .before .args in
-    sym (all-false (λ k. wellAt (a .intg) (a .frac) k (getD (a .t3) k 0)) 9 (c .before .before .before .loop .k) (search needs)
-    (sym (c .before .well-at .ensures) ∙ not-true (c .before .well-at .result) (c .if1 .taken)))
-
-add-k : tie.Need-add-k Inv-loop μ-loop
-add-k c = omega arith
-
-loop-less : tie.Need-loop-less Inv-loop μ-loop
-loop-less c = omega arith
-
-loop-again : tie.Need-loop-again Inv-loop μ-loop
-loop-again c =
-    let l = c .before .before .before .loop in
-    (search needs, below-more _ (l .k) (l .inv .1) (sym (c .before .well-at .ensures) ∙ not-false (c .before .well-at .result) (c .if1 .left)))
-
-returns-2 : tie.Need-returns-2 Inv-loop μ-loop
-returns-2 c =
     let a = c .before .before .args in
-    let l = c .before .loop in
-    let e : l .k ≡ 9 = omega arith in
-    sym (all-true (λ k. wellAt (a .intg) (a .frac) k (getD (a .t3) k 0)) 9 (λ j h. l .inv .1 j (rw e h)))
+    sym (not-capped (a .intg) (a .frac) (a .t3) (sym (c .before .capped .ensures) ∙ not-true (c .before .capped .result) (c .if1 .taken)))
+
+array-read-if2 : tie.Need-array-read-if2
+array-read-if2 c = search needs
+
+add-power : tie.Need-add-power
+add-power c = search needs
+
+mul-power : tie.Need-mul-power
+mul-power c = search needs
+
+sub-power : tie.Need-sub-power
+sub-power c = search needs
+
+power-requires : tie.Need-power-requires
+power-requires c κs = search needs
+
+returns-2 : tie.Need-returns-2
+unfolding groupsOf
+returns-2 c =
+    let a = c .before .before .before .before .args in
+    sym (first-over (a .intg) (a .frac) (a .t3) (rw (c .before .power .ensures .0) at (c .if2 .taken)))
+
+mul-rest : tie.Need-mul-rest
+mul-rest c = search needs
+
+sub-rest : tie.Need-sub-rest
+sub-rest c = search needs
+
+add-result : tie.Need-add-result
+add-result c = search needs
+
+sub-result : tie.Need-sub-result
+sub-result c = search needs
+
+mul-result : tie.Need-mul-result
+mul-result c = search needs
+
+array-read-result : tie.Need-array-read-result
+array-read-result c = search needs
+
+power-requires-2 : tie.Need-power-requires-2
+power-requires-2 c κs = search needs
+
+rem-result : tie.Need-rem-result
+rem-result c = search needs
+
+returns-3 : tie.Need-returns-3
+unfolding groupsOf
+returns-3 c =
+    let a = c .before .before .before .before .before .args in
+    let z = c .before .before .before .before in
+    let e : 9 * groupsOf (a .frac) - a .frac ≡ 0 = c .if3 .taken in
+    sym (all-of (a .intg) (a .frac) (a .t3) (sym (z .capped .ensures) ∙ not-false (z .capped .result) (c .before .before .before .if1 .left)) (rw (c .before .before .power .ensures .0) at (c .before .if2 .left)) (rw e (mod-one (getD (a .t3) (groupsOf (a .intg) + groupsOf (a .frac) - 1) 0))))
+
+returns-4 : tie.Need-returns-4
+unfolding groupsOf
+returns-4 c =
+    let a = c .before .before .before .before .before .before .args in
+    let z = c .before .before .before .before .before in
+    let h : 0 < 9 * groupsOf (a .frac) - a .frac = omega arith in
+    rw (c .power2 .ensures .0) (sym (all-is (a .intg) (a .frac) (a .t3) (sym (z .capped .ensures) ∙ not-false (z .capped .result) (c .before .before .before .before .if1 .left)) (rw (c .before .before .before .power .ensures .0) at (c .before .before .if2 .left)) h (omega arith)))
 
 pub all-well-spec : {M : Type 1} → statement M
 all-well-spec =
     tie.close
     (tie.spec
-    Inv-loop
-    μ-loop
-    loop-holds
-    mul-well-at
-    array-read-well-at
-    well-at-requires
+    add-n
+    add-m
+    add-capped
+    capped-requires
     returns
-    add-k
-    loop-less
-    loop-again
-    returns-2)
+    array-read-if2
+    add-power
+    mul-power
+    sub-power
+    power-requires
+    returns-2
+    mul-rest
+    sub-rest
+    add-result
+    sub-result
+    mul-result
+    array-read-result
+    power-requires-2
+    rem-result
+    returns-3
+    returns-4)
