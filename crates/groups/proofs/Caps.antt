@@ -14,7 +14,7 @@ use borrow.Author.Tests.{ltb-true, ltb-false, lt-ltb, le-ltb, eqb-true, eq-eqb}
 use Rattle.groups.specs.Numbers.{both, all}
 use Rattle.groups.specs.Layout.{groupsOf, side, digitsAt}
 use Rattle.groups.specs.Read.{unitOf}
-use Rattle.groups.specs.Write.{wellAt}
+use Rattle.groups.specs.Write.{digitsOk, wellAt, wellFormed}
 use Rattle.groups.specs.Course.{cappedAt}
 use Rattle.groups.proofs.Accept.{both-true, is-false}
 use Rattle.groups.proofs.Tab.{all-true, all-false, all-each}
@@ -115,7 +115,7 @@ module _ (i f k g : ℕ) where
       (λ h. well-integral h ∙ lt-ltb g (10 ^ digitsAt i f k) (⊎-elim (λ z. rw (digits-first i f k z h) (p z)) (λ z. rw (digits-integral i f k z h) (used-capped (omega arith) e)) (eq-zero-or-pos k)))
       (λ h. ⊎-elim
       (λ l. of-fraction h (rw (digits-fraction i f k h l) (mod-one g)) (used-capped (omega arith) e))
-      (λ l. ⊎-elim (λ m. let s : k + 1 ≡ groupsOf i + groupsOf f = omega arith in of-fraction h (rw (digits-last i f k h s) (q s)) (used-capped m e))
+      (λ (l : groupsOf i + groupsOf f ≤ k + 1). ⊎-elim (λ m. let s : k + 1 ≡ groupsOf i + groupsOf f = omega arith in of-fraction h (rw (digits-last i f k h s) (q s)) (used-capped m e))
       (λ m. let z = unused-capped m e in of-fraction h (rw (digits-none i f k m) (omega arith)) (omega arith))
       (below-or-not k (groupsOf i + groupsOf f)))
       (below-or-not (k + 1) (groupsOf i + groupsOf f)))
@@ -131,7 +131,7 @@ module _ (i f k g : ℕ) where
   well-last h s e = let l : groupsOf i ≤ k = omega arith in rw (digits-last i f k l s) at (fraction-parts l e .0)
 
 -- ---- all nine
-true-not-false : true ≡ false → ⊥
+pub true-not-false : true ≡ false → ⊥
 true-not-false z = let n : _≡_ {A = ℕ} 0 1 = ap (λ (t : Bool). cond t 0 1) z in omega arith
 
 module _ (i f : ℕ) (gs : List ℕ) where
@@ -140,6 +140,13 @@ module _ (i f : ℕ) (gs : List ℕ) where
 
   abbrev well : ℕ → Bool
   well = λ k. wellAt i f k (getD gs k 0)
+
+  -- no group has more than nine digits
+  pub well-bound : all 9 well ≡ true → (k : ℕ) → k < 9 → getD gs k 0 < 1000000000
+  well-bound e k h =
+      let c = well-capped i f k (getD gs k 0) (all-each well 9 e k h) in
+      ⊎-elim (λ l. used-capped i f k (getD gs k 0) l c) (λ l. let z = unused-capped i f k (getD gs k 0) l c in omega arith)
+      (below-or-not k (groupsOf i + groupsOf f))
 
   pub not-capped : all 9 capped ≡ false → all 9 well ≡ false
   not-capped e =
@@ -161,3 +168,7 @@ module _ (i f : ℕ) (gs : List ℕ) where
         let s : k + 1 ≡ groupsOf i + groupsOf f = omega arith in
         same-test (all 9 well) (eqb (getD gs k 0 % 10 ^ (9 * groupsOf f - f)) 0)
         (λ w. eq-eqb (getD gs k 0 % 10 ^ (9 * groupsOf f - f)) 0 (well-last i f k (getD gs k 0) h s (all-each well 9 w k (omega arith)))) (λ e. all-of (eqb-true (getD gs k 0 % 10 ^ (9 * groupsOf f - f)) 0 e))
+
+pub well-groups : (i f : ℕ) (gs : List ℕ) → wellFormed i f gs ≡ true → (k : ℕ) → k < 9 → getD gs k 0 < 1000000000
+unfolding wellFormed
+well-groups i f gs e = well-bound i f gs (both-true (digitsOk i f) (all 9 (well i f gs)) e .1)

@@ -60,7 +60,3 @@ pub flip-set : (bs : List ℕ) → 0 < length bs → set bs 0 (flip (getD bs 0 0
 unfolding flipFirst
 flip-set [] h = absurd (not-suc-le-zero h)
 flip-set (b ∷ bs) h = refl
-
-pub flip-part : (out : List ℕ) (n : ℕ) → 0 < n → n ≤ length out → flipFirst out ≡ flipFirst (take n out) ++ drop n out
-flip-part out n h l =
-    ap flipFirst (sym (take-append-drop n out)) ∙ flip-front (take n out) (drop n out) (rw (length-take-le n out l) h)

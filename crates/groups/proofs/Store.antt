@@ -1,4 +1,4 @@
--- The laws of writing: one byte more of a group, from its last to its first; one group more; the first bit at the end.
+-- The laws of writing: one digit more of a group, from its last to its first; how many bytes there are, and how large.
 -- Assumes nothing.
 use mathlib.Core.Path.{_≡_, refl, _∙_}
 use mathlib.Core.List.{List, _∷_, _++_, map, map-append, append-assoc}
@@ -41,26 +41,6 @@ pub join : (A B out : List ℕ) (at w : ℕ) → length A ≡ at
     → take at (A ++ drop at out) ++ (B ++ drop (at + w) (A ++ drop at out)) ≡ (A ++ B) ++ drop (at + w) out
 join A B out at w e =
     rw (take-at A (drop at out) at e, ← drop-drop w at (A ++ drop at out), drop-at A (drop at out) at e, drop-drop w at out, append-assoc)
-
--- one group more
-pub group-is : (F : Form) (i f k g : ℕ) {d w u b : ℕ} → d ≡ digitsAt i f k → w ≡ wideOf F d → u ≡ unitOf i k d → b ≡ baseOf F
-    → digits b w (g / u) ≡ groupDigits F i f k g
-unfolding groupDigits
-group-is F i f k g d w u b = rw (b, u, w, d)
-
-pub to-next : (F : Form) (i f : ℕ) (gs : List ℕ) (k : ℕ) → digitsTo F i f gs k ++ groupDigits F i f k (getD gs k 0) ≡ digitsTo F i f gs (k + 1)
-unfolding digitsTo
-to-next F i f gs k = rw add-one
-
--- one element more of a front that a function is put over
-pub map-more : (g : ℕ → ℕ) (out out₀ : List ℕ) (i : ℕ) → i < length out₀ → out ≡ map g (take i out₀) ++ drop i out₀
-    → set out i (g (getD out i 0)) ≡ map g (take (i + 1) out₀) ++ drop (i + 1) out₀
-map-more g out out₀ i h e =
-    let A = map g (take i out₀) in
-    let n : length A ≡ i = length-map (take i out₀) g ∙ length-take-le i out₀ (le-of-lt h) in
-    let y = getD out₀ i 0 in
-    let q : out ≡ A ++ y ∷ drop (suc i) out₀ = e ∙ rw (drop-cons out₀ i 0 h) in
-    rw (q, getD-at A y (drop (suc i) out₀) 0 i n, set-at A y (drop (suc i) out₀) (g y) i n, add-one, take-suc out₀ i 0 h, map-append, append-assoc)
 
 -- the bytes of all groups are as many as their size
 pub length-written : (F : Form) (i f : ℕ) (gs : List ℕ) → length (written F i f gs) ≡ sizeIn F i f

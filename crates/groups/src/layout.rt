@@ -2,19 +2,52 @@
 use super::Counted;
 use super::Form;
 ghost use mathlib.Core.Path.{_≡_};
-ghost use Prim.Native.Nat.{_+_, _-_, _^_, _<_, _≤_};
+ghost use Prim.Native.Nat.{_+_, _/_, _^_, _<_, _≤_};
 ghost use Rattle.groups.specs.Layout.{baseOf, wideOf, width, side, digitsAt, sizeIn, size};
+ghost use Rattle.groups.specs.Course.{rest, lead, wholes};
 ghost use Rattle.groups.specs.Read.{inRange, unitOf};
 ghost use Rattle.groups.specs.Write.{told, sizeOf};
 
-// The bytes of a group of as many digits.
-const DIG_TO_BYTES: [usize; 10] = [0, 1, 1, 2, 2, 3, 3, 4, 4, 4];
-
+// The bytes of a group of d digits.
 pub(crate) fn width_of(d: usize) -> usize
     requires { ⌜ d ≤ 9 ⌝ }
     ensures { λ r. ⌜ (r ≡ width d) × (r ≤ 4) ⌝ }
 {
-    DIG_TO_BYTES[d]
+    if d < 7 { (d + 1) / 2 } else { 4 }
+}
+
+// A ninth of n, rounded down: for so small a number one product and a shift.
+pub(crate) fn ninth(n: usize) -> usize
+    requires { ⌜ n ≤ 73 ⌝ }
+    ensures { λ r. ⌜ r ≡ n / 9 ⌝ }
+{
+    n * 57 / 512
+}
+
+// The places of a decimal: the integral digits that fill no whole group, and whether they take a place; then the whole groups of both
+// sides, from the place `first` on and before `last`; there the digits of the fraction that fill none.
+pub struct Sides {
+    pub lead: usize,
+    pub first: usize,
+    pub last: usize,
+    pub tail: usize,
+}
+
+pub(crate) fn sides_of(intg: usize, frac: usize) -> Sides
+    requires { ⌜ intg + frac ≤ 65 ⌝ }
+    ensures { λ r. ⌜ (r .lead ≡ rest intg) × (r .first ≡ lead intg) ⌝ }
+    ensures { λ r. ⌜ (r .last ≡ lead intg + wholes intg frac) × (r .tail ≡ rest frac) ⌝ }
+{
+    let q = ninth(intg);
+    let z = ninth(frac);
+    let lead = intg - 9 * q;
+    let first = if lead == 0 { 0 } else { 1 };
+    Sides {
+        lead,
+        first,
+        last: first + (q + z),
+        tail: frac - 9 * z,
+    }
 }
 
 // 10 to the d. (A match is a table in the program; an array would be laid out anew at each call.)
@@ -104,7 +137,9 @@ fn packed_size(intg: usize, frac: usize) -> usize
     requires { ⌜ (frac ≤ 30) × (intg + frac ≤ 65) ⌝ }
     ensures { λ r. ⌜ r ≡ size intg frac ⌝ }
 {
-    4 * (intg / 9) + width_of(intg % 9) + (4 * (frac / 9) + width_of(frac % 9))
+    let q = ninth(intg);
+    let z = ninth(frac);
+    4 * q + width_of(intg - 9 * q) + (4 * z + width_of(frac - 9 * z))
 }
 
 // The bytes of all groups in a form.

@@ -8,8 +8,8 @@ ghost use Rattle.groups.specs.Course.{cappedAt};
 ghost use Rattle.groups.specs.Write.{digitsOk, wellAt, wellFormed};
 
 // Whether the first t groups have at most nine digits, and the others are 0.
-fn capped(groups: [u32; 9], t: usize) -> bool
-    ensures { λ r. ⌜ r ≡ all 9 (λ k. cappedAt t k (getD groups k 0)) ⌝ }
+fn capped(groups: &[u32; 9], t: usize) -> bool
+    ensures { λ r. ⌜ r ≡ all 9 (λ k. cappedAt t k (getD (now (groups .entry)) k 0)) ⌝ }
 {
     for k in 0..9 {
         if k < t {
@@ -26,9 +26,9 @@ fn capped(groups: [u32; 9], t: usize) -> bool
 }
 
 // Only the first group can have fewer digits, and only the last a unit above 1.
-fn all_well(intg: usize, frac: usize, groups: [u32; 9]) -> bool
+fn all_well(intg: usize, frac: usize, groups: &[u32; 9]) -> bool
     requires { ⌜ (1 ≤ intg + frac) × ((intg + frac ≤ 65) × (frac ≤ 30)) ⌝ }
-    ensures { λ r. ⌜ r ≡ all 9 (λ k. wellAt intg frac k (getD groups k 0)) ⌝ }
+    ensures { λ r. ⌜ r ≡ all 9 (λ k. wellAt intg frac k (getD (now (groups .entry)) k 0)) ⌝ }
 {
     let n = (intg + 8) / 9;
     let m = (frac + 8) / 9;
@@ -62,11 +62,18 @@ fn digits_ok(intg: usize, frac: usize) -> bool
 }
 
 // Whether these digits and groups are those of a decimal.
-pub fn well_formed(intg: usize, frac: usize, groups: [u32; 9]) -> bool
-    ensures { λ r. ⌜ r ≡ wellFormed intg frac groups ⌝ }
+pub(crate) fn is_decimal(intg: usize, frac: usize, groups: &[u32; 9]) -> bool
+    ensures { λ r. ⌜ r ≡ wellFormed intg frac (now (groups .entry)) ⌝ }
 {
     if !digits_ok(intg, frac) {
         return false;
     }
     all_well(intg, frac, groups)
+}
+
+// The same, of groups by value.
+pub fn well_formed(intg: usize, frac: usize, groups: [u32; 9]) -> bool
+    ensures { λ r. ⌜ r ≡ wellFormed intg frac groups ⌝ }
+{
+    is_decimal(intg, frac, &groups)
 }

@@ -1,21 +1,23 @@
 // Bytes out of groups.
 use super::Counted;
 use super::Form;
-use super::layout::base_of;
-use super::layout::digits_at;
+use super::layout::power;
+use super::layout::sides_of;
 use super::layout::size_in;
-use super::layout::unit;
-use super::layout::wide_of;
+use super::layout::width_of;
 use super::reader::flipped;
-use super::record::well_formed;
+use super::record::is_decimal;
 ghost use mathlib.Core.Path.{_≡_};
-ghost use mathlib.Core.List.{_++_, map};
-ghost use Prim.Native.Nat.{_+_, _<_, _≤_};
-ghost use lib.ListN.{length, take, drop};
+ghost use mathlib.Core.Bool.{true};
+ghost use mathlib.Core.List.{_++_};
+ghost use Prim.Native.Nat.{_+_, _-_, _*_, _/_, _^_, _<_, _≤_};
+ghost use lib.ListN.{length, getD, take, drop};
 ghost use Rattle.groups.specs.Numbers.{digits};
-ghost use Rattle.groups.specs.Layout.{wideOf, digitsAt, offset};
-ghost use Rattle.groups.specs.Packed.{flipFirst, invert, bytesOf};
-ghost use Rattle.groups.specs.Write.{told, groupDigits, digitsTo, writeTold, writeLeaves};
+ghost use Rattle.groups.specs.Layout.{width, sizeIn};
+ghost use Rattle.groups.specs.Packed.{flipFirst, bytesOf};
+ghost use Rattle.groups.specs.Write.{told, wellFormed, digitsTo, writeTold, writeLeaves};
+ghost use Rattle.groups.specs.Course.{laidAt, run, shade, shaded, inverts, packs};
+ghost use Rattle.groups.specs.declared.Form.the-variants.{Plain, Digits};
 
 fn low(x: u32) -> u8
     requires { ⌜ x < 256 ⌝ }
@@ -39,45 +41,162 @@ fn put_group(out: &mut [u8], at: usize, w: usize, x: u32, base: u32)
     }
 }
 
-// Writes the group g at place k from `at` on, and returns the place after it.
-fn put_one(
-    out: &mut [u8],
-    form: Form,
-    intg: usize,
-    frac: usize,
-    k: usize,
-    at: usize,
-    g: u32,
-) -> usize
-    requires { ⌜ intg ≤ 65 ⌝ }
-    requires { ⌜ at + wideOf form (digitsAt intg frac k) ≤ length (now out) ⌝ }
-    ensures { λ r. ⌜ r ≡ at + wideOf form (digitsAt intg frac k) ⌝ }
-    ensures { λ r. ⌜ now (out .exit) ≡ take at (now (out .entry)) ++ (groupDigits form intg frac k g ++ drop r (now (out .entry))) ⌝ }
+// The same for bytes, of which there are at most four, with no loop: LLVM makes of four stores one.
+fn put_byte(out: &mut [u8], at: usize, x: u32)
+    requires { ⌜ at + 1 ≤ length (now out) ⌝ }
+    ensures { λ _. ⌜ now (out .exit) ≡ laidAt (now (out .entry)) at 1 (digits 256 1 x) ⌝ }
 {
-    let d = digits_at(intg, frac, k);
-    let w = wide_of(form, d);
-    put_group(out, at, w, g / unit(intg, k, d), base_of(form));
-    at + w
+    out[at] = low(x % 256);
 }
 
-// Writes the digits of all groups.
-fn put_groups(out: &mut [u8], form: Form, intg: usize, frac: usize, groups: [u32; 9])
-    requires { ⌜ (intg ≤ 65) × (offset form intg frac 9 ≤ length (now out)) ⌝ }
-    ensures { λ _. ⌜ now (out .exit) ≡ digitsTo form intg frac groups 9 ++ drop (offset form intg frac 9) (now (out .entry)) ⌝ }
+fn put_two(out: &mut [u8], at: usize, x: u32)
+    requires { ⌜ at + 2 ≤ length (now out) ⌝ }
+    ensures { λ _. ⌜ now (out .exit) ≡ laidAt (now (out .entry)) at 2 (digits 256 2 x) ⌝ }
 {
-    let mut at = 0;
-    for k in 0..9 {
-        at = put_one(out, form, intg, frac, k, at, groups[k]);
+    put_byte(out, at + 1, x);
+    put_byte(out, at, x / 256);
+}
+
+fn put_three(out: &mut [u8], at: usize, x: u32)
+    requires { ⌜ at + 3 ≤ length (now out) ⌝ }
+    ensures { λ _. ⌜ now (out .exit) ≡ laidAt (now (out .entry)) at 3 (digits 256 3 x) ⌝ }
+{
+    put_byte(out, at + 2, x);
+    put_two(out, at, x / 256);
+}
+
+fn put_four(out: &mut [u8], at: usize, x: u32)
+    requires { ⌜ at + 4 ≤ length (now out) ⌝ }
+    ensures { λ _. ⌜ now (out .exit) ≡ laidAt (now (out .entry)) at 4 (digits 256 4 x) ⌝ }
+{
+    put_byte(out, at + 3, x);
+    put_three(out, at, x / 256);
+}
+
+fn put_bytes(out: &mut [u8], at: usize, w: usize, x: u32)
+    requires { ⌜ (w ≤ 4) × (at + w ≤ length (now out)) ⌝ }
+    ensures { λ _. ⌜ now (out .exit) ≡ laidAt (now (out .entry)) at w (digits 256 w x) ⌝ }
+{
+    match w {
+        0 => {}
+        1 => put_byte(out, at, x),
+        2 => put_two(out, at, x),
+        3 => put_three(out, at, x),
+        _ => put_four(out, at, x),
     }
 }
 
-// Inverts the first n bytes.
-fn invert_front(out: &mut [u8], n: usize)
-    requires { ⌜ n ≤ length (now out) ⌝ }
-    ensures { λ _. ⌜ now (out .exit) ≡ map invert (take n (now (out .entry))) ++ drop n (now (out .entry)) ⌝ }
+// The number whose bytes are those of x, inverted or not.
+fn shaded_number(inverted: bool, x: u32) -> u32
+    ensures { λ r. ⌜ r ≡ shade inverted x ⌝ }
 {
-    for i in 0..n {
-        out[i] = 255 - out[i];
+    if inverted { 4294967295 - x } else { x }
+}
+
+// Writes the whole groups from one place to another, and returns the place after them.
+fn put_fours(
+    out: &mut [u8],
+    inverted: bool,
+    at: usize,
+    from: usize,
+    to: usize,
+    groups: &[u32; 9],
+) -> usize
+    requires { ⌜ (from ≤ to) × (to ≤ 9) ⌝ }
+    requires { ⌜ at + 4 * (to - from) ≤ length (now out) ⌝ }
+    ensures { λ r. ⌜ r ≡ at + 4 * (to - from) ⌝ }
+    ensures { λ _. ⌜ now (out .exit) ≡ laidAt (now (out .entry)) at (4 * (to - from)) (run 256 4 (λ k. shade inverted (getD (now (groups .entry)) k 0)) from (to - from)) ⌝ }
+{
+    let mut p = at;
+    for k in from..to {
+        put_four(out, p, shaded_number(inverted, groups[k]));
+        p += 4;
+    }
+    p
+}
+
+fn put_nines(out: &mut [u8], at: usize, from: usize, to: usize, groups: &[u32; 9]) -> usize
+    requires { ⌜ (from ≤ to) × (to ≤ 9) ⌝ }
+    requires { ⌜ at + 9 * (to - from) ≤ length (now out) ⌝ }
+    ensures { λ r. ⌜ r ≡ at + 9 * (to - from) ⌝ }
+    ensures { λ _. ⌜ now (out .exit) ≡ laidAt (now (out .entry)) at (9 * (to - from)) (run 10 9 (λ k. getD (now (groups .entry)) k 0) from (to - from)) ⌝ }
+{
+    let mut p = at;
+    for k in from..to {
+        put_group(out, p, 9, groups[k], 10);
+        p += 9;
+    }
+    p
+}
+
+// Writes the d integral digits that fill no whole group, and counts the bytes.
+fn put_head(out: &mut [u8], inverted: bool, d: usize, g: u32) -> usize
+    requires { ⌜ (d ≤ 8) × (width d ≤ length (now out)) ⌝ }
+    ensures { λ r. ⌜ r ≡ width d ⌝ }
+    ensures { λ _. ⌜ now (out .exit) ≡ laidAt (now (out .entry)) 0 (width d) (digits 256 (width d) (shade inverted g)) ⌝ }
+{
+    let w = width_of(d);
+    put_bytes(out, 0, w, shaded_number(inverted, g));
+    w
+}
+
+// Writes the s digits of a fraction that fill no whole group, out of the group g that holds them.
+fn put_last(out: &mut [u8], inverted: bool, at: usize, s: usize, g: u32)
+    requires { ⌜ (s ≤ 8) × (at + width s ≤ length (now out)) ⌝ }
+    ensures { λ _. ⌜ now (out .exit) ≡ laidAt (now (out .entry)) at (width s) (digits 256 (width s) (shade inverted (g / 10 ^ (9 - s)))) ⌝ }
+{
+    if s == 0 {
+        return;
+    }
+    put_bytes(
+        out,
+        at,
+        width_of(s),
+        shaded_number(inverted, g / power(9 - s)),
+    );
+}
+
+// Writes all groups in base 256: the integral rest, the whole groups of both sides, the rest of the fraction.
+fn put_packed(out: &mut [u8], inverted: bool, intg: usize, frac: usize, groups: &[u32; 9])
+    requires { ⌜ (wellFormed intg frac (now groups) ≡ true) × (sizeIn Plain intg frac ≤ length (now out)) ⌝ }
+    ensures { λ _. ⌜ now (out .exit) ≡ shaded inverted (digitsTo Plain intg frac (now (groups .entry)) 9) ++ drop (sizeIn Plain intg frac) (now (out .entry)) ⌝ }
+{
+    let p = sides_of(intg, frac);
+    let last = p.last;
+    let w = put_head(out, inverted, p.lead, groups[0]);
+    let at = put_fours(out, inverted, w, p.first, last, groups);
+    put_last(out, inverted, at, p.tail, groups[last]);
+}
+
+// The same in base 10, a digit to a byte.
+fn put_digits(out: &mut [u8], intg: usize, frac: usize, groups: &[u32; 9])
+    requires { ⌜ (wellFormed intg frac (now groups) ≡ true) × (sizeIn Digits intg frac ≤ length (now out)) ⌝ }
+    ensures { λ _. ⌜ now (out .exit) ≡ digitsTo Digits intg frac (now (groups .entry)) 9 ++ drop (sizeIn Digits intg frac) (now (out .entry)) ⌝ }
+{
+    let p = sides_of(intg, frac);
+    let last = p.last;
+    put_group(out, 0, p.lead, groups[0], 10);
+    let at = put_nines(out, p.lead, p.first, last, groups);
+    put_group(out, at, p.tail, groups[last] / power(9 - p.tail), 10);
+}
+
+fn is_packed(form: Form) -> bool
+    ensures { λ r. ⌜ r ≡ packs form ⌝ }
+{
+    match form {
+        Form::Plain => true,
+        Form::Inverted => true,
+        Form::Digits => false,
+    }
+}
+
+fn is_inverted(form: Form) -> bool
+    ensures { λ r. ⌜ r ≡ inverts form ⌝ }
+{
+    match form {
+        Form::Plain => false,
+        Form::Inverted => true,
+        Form::Digits => false,
     }
 }
 
@@ -88,18 +207,16 @@ fn flip_first(out: &mut [u8])
     out[0] = flipped(out[0]);
 }
 
-// Turns the digits in the first n bytes into the bytes of a form.
-fn show_front(out: &mut [u8], n: usize, form: Form)
-    requires { ⌜ (0 < n) × (n ≤ length (now out)) ⌝ }
-    ensures { λ _. ⌜ now (out .exit) ≡ bytesOf form (take n (now (out .entry))) ++ drop n (now (out .entry)) ⌝ }
+// Writes all groups in a form.
+fn put_form(out: &mut [u8], form: Form, intg: usize, frac: usize, groups: &[u32; 9])
+    requires { ⌜ (wellFormed intg frac (now groups) ≡ true) × (sizeIn form intg frac ≤ length (now out)) ⌝ }
+    ensures { λ _. ⌜ now (out .exit) ≡ bytesOf form (digitsTo form intg frac (now (groups .entry)) 9) ++ drop (sizeIn form intg frac) (now (out .entry)) ⌝ }
 {
-    match form {
-        Form::Plain => flip_first(out),
-        Form::Inverted => {
-            invert_front(out, n);
-            flip_first(out);
-        }
-        Form::Digits => {}
+    if is_packed(form) {
+        put_packed(out, is_inverted(form), intg, frac, groups);
+        flip_first(out);
+    } else {
+        put_digits(out, intg, frac, groups);
     }
 }
 
@@ -108,14 +225,13 @@ pub fn write(out: &mut [u8], form: Form, intg: usize, frac: usize, groups: [u32;
     ensures { λ r. ⌜ told r ≡ writeTold form intg frac groups (now (out .entry)) ⌝ }
     ensures { λ _. ⌜ now (out .exit) ≡ writeLeaves form intg frac groups (now (out .entry)) ⌝ }
 {
-    if !well_formed(intg, frac, groups) {
+    if !is_decimal(intg, frac, &groups) {
         return Counted::Refused(refusal::RECORD);
     }
     let n = size_in(form, intg, frac);
     if out.len() < n {
         return Counted::Refused(refusal::ROOM);
     }
-    put_groups(out, form, intg, frac, groups);
-    show_front(out, n, form);
+    put_form(out, form, intg, frac, &groups);
     Counted::Bytes(n)
 }

@@ -1,31 +1,21 @@
--- The table's rule is a test at each of its ten entries, which antt computes.
+-- Below seven digits a byte holds two; from there on it is four.
 -- Assumes what the contract requires, and nothing else.
-use mathlib.Core.List.{List, [], _∷_}
-use Prim.Native.Nat.{ℕ}
-use lib.Dec.{eqb, eqb→eq, leb, leb→le}
-use lib.ListN.{getD}
-use borrow.Author.Needs.{needs}
+use native.Mathlib.Omega.{arith}
 use Rattle.groups.specs.Layout.{width}
-use Rattle.groups.proofs.Finite.{at}
+use borrow.Author.Needs.{needs}
 use Rattle.groups.proofs.layout.width_of.Statement.{statement}
 use Rattle.groups.proofs.layout.width_of.Tie as tie
 
-abbrev table : List ℕ
-table = 0 ∷ 1 ∷ 1 ∷ 2 ∷ 2 ∷ 3 ∷ 3 ∷ 4 ∷ 4 ∷ 4 ∷ []
-
-mul-result : tie.Need-mul-result
-mul-result c = search needs
-
-array-read-result : tie.Need-array-read-result
-array-read-result c = search needs
+add-result : tie.Need-add-result
+add-result c = search needs
 
 returns : tie.Need-returns
 unfolding width
-returns c =
-    let t = c .args .d in (
-      eqb→eq _ _ (at (λ k. eqb (getD table k 0) (width k)) 10 tt t (search needs)),
-      leb→le _ _ (at (λ k. leb (getD table k 0) 4) 10 tt t (search needs)),
-    )
+returns c = omega arith
+
+returns-2 : tie.Need-returns-2
+unfolding width
+returns-2 c = omega arith
 
 pub width-of-spec : {M : Type 1} → statement M
-width-of-spec = tie.close (tie.spec mul-result array-read-result returns)
+width-of-spec = tie.close (tie.spec add-result returns returns-2)

@@ -1,5 +1,6 @@
 -- The groups that there are have at most nine digits and the others are 0; then the first place and the last decide.
 -- Assumes what the contract requires, and nothing else.
+use denote.Ref.{now}
 use Prim.Native.Nat.{ℕ, _+_, _-_, _*_, _/_, _%_, _^_, _<_, _≤_}
 use mathlib.Core.Path.{_≡_, sym, _∙_, ap}
 use mathlib.Core.Bool.{true}
@@ -29,10 +30,10 @@ returns : tie.Need-returns
 unfolding groupsOf
 returns c =
     let a = c .before .before .args in
-    sym (not-capped (a .intg) (a .frac) (a .t3) (sym (c .before .capped .ensures) ∙ not-true (c .before .capped .result) (c .if1 .taken)))
+    sym (not-capped (a .intg) (a .frac) (now (a .groups)) (sym (c .before .capped .ensures) ∙ not-true (c .before .capped .result) (c .if1 .taken)))
 
-array-read-if2 : tie.Need-array-read-if2
-array-read-if2 c = search needs
+element-copy-out-if2 : tie.Need-element-copy-out-if2
+element-copy-out-if2 c = search needs
 
 add-power : tie.Need-add-power
 add-power c = search needs
@@ -49,8 +50,8 @@ power-requires c κs = search needs
 returns-2 : tie.Need-returns-2
 unfolding groupsOf
 returns-2 c =
-    let a = c .before .before .before .before .args in
-    sym (first-over (a .intg) (a .frac) (a .t3) (rw (c .before .power .ensures .0) at (c .if2 .taken)))
+    let a = c .before .before .before .before .before .args in
+    sym (first-over (a .intg) (a .frac) (now (a .groups)) (rw (c .before .power .ensures .0) at (c .if2 .taken)))
 
 mul-rest : tie.Need-mul-rest
 mul-rest c = search needs
@@ -67,8 +68,8 @@ sub-result c = search needs
 mul-result : tie.Need-mul-result
 mul-result c = search needs
 
-array-read-result : tie.Need-array-read-result
-array-read-result c = search needs
+element-copy-out-result : tie.Need-element-copy-out-result
+element-copy-out-result c = search needs
 
 power-requires-2 : tie.Need-power-requires-2
 power-requires-2 c κs = search needs
@@ -79,18 +80,18 @@ rem-result c = search needs
 returns-3 : tie.Need-returns-3
 unfolding groupsOf
 returns-3 c =
-    let a = c .before .before .before .before .before .args in
-    let z = c .before .before .before .before in
+    let a = c .before .before .before .before .before .before .args in
+    let z = c .before .before .before .before .before in
     let e : 9 * groupsOf (a .frac) - a .frac ≡ 0 = c .if3 .taken in
-    sym (all-of (a .intg) (a .frac) (a .t3) (sym (z .capped .ensures) ∙ not-false (z .capped .result) (c .before .before .before .if1 .left)) (rw (c .before .before .power .ensures .0) at (c .before .if2 .left)) (rw e (mod-one (getD (a .t3) (groupsOf (a .intg) + groupsOf (a .frac) - 1) 0))))
+    sym (all-of (a .intg) (a .frac) (now (a .groups)) (sym (z .capped .ensures) ∙ not-false (z .capped .result) (c .before .before .before .before .if1 .left)) (rw (c .before .before .power .ensures .0) at (c .before .if2 .left)) (rw e (mod-one (getD (now (a .groups)) (groupsOf (a .intg) + groupsOf (a .frac) - 1) 0))))
 
 returns-4 : tie.Need-returns-4
 unfolding groupsOf
 returns-4 c =
-    let a = c .before .before .before .before .before .before .args in
-    let z = c .before .before .before .before .before in
+    let a = c .before .before .before .before .before .before .before .before .args in
+    let z = c .before .before .before .before .before .before .before in
     let h : 0 < 9 * groupsOf (a .frac) - a .frac = omega arith in
-    rw (c .power2 .ensures .0) (sym (all-is (a .intg) (a .frac) (a .t3) (sym (z .capped .ensures) ∙ not-false (z .capped .result) (c .before .before .before .before .if1 .left)) (rw (c .before .before .before .power .ensures .0) at (c .before .before .if2 .left)) h (omega arith)))
+    rw (c .power2 .ensures .0) (sym (all-is (a .intg) (a .frac) (now (a .groups)) (sym (z .capped .ensures) ∙ not-false (z .capped .result) (c .before .before .before .before .before .before .if1 .left)) (rw (c .before .before .before .before .power .ensures .0) at (c .before .before .before .if2 .left)) h (omega arith)))
 
 pub all-well-spec : {M : Type 1} → statement M
 all-well-spec =
@@ -101,7 +102,7 @@ all-well-spec =
     add-capped
     capped-requires
     returns
-    array-read-if2
+    element-copy-out-if2
     add-power
     mul-power
     sub-power
@@ -112,7 +113,7 @@ all-well-spec =
     add-result
     sub-result
     mul-result
-    array-read-result
+    element-copy-out-result
     power-requires-2
     rem-result
     returns-3

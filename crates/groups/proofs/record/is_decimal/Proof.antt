@@ -7,8 +7,8 @@ use borrow.Author.Tests.{not-true, not-false}
 use Rattle.groups.specs.Write.{digitsOk, wellFormed}
 use Rattle.groups.proofs.Accept.{digits-ok}
 use borrow.Author.Needs.{needs}
-use Rattle.groups.proofs.record.well_formed.Statement.{statement}
-use Rattle.groups.proofs.record.well_formed.Tie as tie
+use Rattle.groups.proofs.record.is_decimal.Statement.{statement}
+use Rattle.groups.proofs.record.is_decimal.Tie as tie
 
 in-digits : (c : tie.Else1) → let a = c .before .before .args in digitsOk (a .intg) (a .frac) ≡ true
 in-digits c = sym (c .before .digits-ok .ensures) ∙ not-false (c .before .digits-ok .result) (c .if1 .left)
@@ -27,5 +27,5 @@ returns-2 : tie.Need-returns-2
 unfolding wellFormed
 returns-2 c = c .all-well .ensures ∙ sym (simp (in-digits (c .before)))
 
-pub well-formed-spec : {M : Type 1} → statement M
-well-formed-spec = tie.close (tie.spec digits-ok-requires returns all-well-requires returns-2)
+pub is-decimal-spec : {M : Type 1} → statement M
+is-decimal-spec = tie.close (tie.spec digits-ok-requires returns all-well-requires returns-2)

@@ -1,0 +1,133 @@
+-- The places of a decimal by its two sides: the integral rest, if there is one, then whole groups of both sides, then the fraction's rest,
+-- then none. What stands before each place, as digits and as a count of bytes, is read off that.
+-- Assumes nothing.
+use mathlib.Core.Path.{_≡_, refl, sym, ap, _∙_}
+use mathlib.Core.Bool.{Bool, true, false, cond}
+use mathlib.Core.List.{List, [], _∷_, _++_, append-nil, append-assoc}
+use mathlib.Core.Logic.{⊎-elim}
+use Prim.Native.Nat.{ℕ, zero, suc, _+_, _-_, _*_, _/_, _^_, _≤_, _<_, min}
+use native.Mathlib.Nat.{add-zero, add-suc, div-one, eq-zero-or-pos, le-trans, le-suc}
+use native.Mathlib.Numerals.{add-one}
+use native.Mathlib.Omega.{arith}
+use lib.Dec.{ltb}
+use lib.ListN.{length, getD, length-append}
+use borrow.Author.Tests.{lt-ltb, le-ltb}
+use Rattle.groups.specs.Numbers.{digits}
+use Rattle.groups.specs.Layout.{baseOf, wideOf, width, groupsOf, side, digitsAt, offset, sizeIn, size}
+use Rattle.groups.specs.Read.{unitOf}
+use Rattle.groups.specs.Write.{groupDigits, digitsTo}
+use Rattle.groups.specs.Course.{run, rest, lead, wholes}
+use Rattle.groups.specs.declared.Form.{Form}
+use Rattle.groups.specs.declared.Form.the-variants.{Plain, Inverted, Digits}
+use Rattle.groups.proofs.Radix.{length-digits}
+use Rattle.groups.proofs.Laid.{length-run}
+use Rattle.groups.proofs.Store.{length-to}
+use Rattle.groups.proofs.Caps.{below-or-not}
+
+-- ---- the digits at each place
+module _ (i f k : ℕ) where
+  pub digits-whole : lead i ≤ k → k < lead i + wholes i f → digitsAt i f k ≡ 9
+  unfolding digitsAt groupsOf side
+  digits-whole h l =
+      ⊎-elim (λ (m : k < (i + 8) / 9). simp (lt-ltb k ((i + 8) / 9) m) (omega arith)) (λ (m : (i + 8) / 9 ≤ k). simp (le-ltb k ((i + 8) / 9) m) (omega arith))
+      (below-or-not k ((i + 8) / 9))
+
+  pub tail-side : k ≡ lead i + wholes i f → groupsOf i ≤ k
+  unfolding groupsOf
+  tail-side e = omega arith
+
+  pub digits-tail : k ≡ lead i + wholes i f → digitsAt i f k ≡ rest f
+  unfolding digitsAt groupsOf side
+  digits-tail e = simp (le-ltb k ((i + 8) / 9) (tail-side e)) (omega arith)
+
+  pub digits-past : lead i + wholes i f < k → digitsAt i f k ≡ 0
+  unfolding digitsAt groupsOf side
+  digits-past e = let m : (i + 8) / 9 ≤ k = omega arith in simp (le-ltb k ((i + 8) / 9) m) (omega arith)
+
+  pub unit-fraction : (d : ℕ) → groupsOf i ≤ k → unitOf i k d ≡ 10 ^ (9 - d)
+  unfolding unitOf
+  unit-fraction d h = simp (le-ltb k (groupsOf i) h)
+
+pub digits-lead : (i f : ℕ) → 0 < rest i → digitsAt i f 0 ≡ rest i
+unfolding digitsAt groupsOf side
+digits-lead i f h = let m : 0 < (i + 8) / 9 = omega arith in simp (lt-ltb 0 ((i + 8) / 9) m) (omega arith)
+
+pub unit-lead : (i d : ℕ) → 0 < rest i → unitOf i 0 d ≡ 1
+unfolding unitOf groupsOf
+unit-lead i d h = let m : 0 < (i + 8) / 9 = omega arith in simp (lt-ltb 0 ((i + 8) / 9) m)
+
+pub unit-nine : (i k : ℕ) → unitOf i k 9 ≡ 1
+unfolding unitOf
+unit-nine i k = go (ltb k (groupsOf i))
+  where
+    go : (t : Bool) → cond t 1 (10 ^ (9 - 9)) ≡ 1
+    go true = refl
+    go false = refl
+
+pub wide-none : (F : Form) → wideOf F 0 ≡ 0
+unfolding width
+wide-none Plain = refl
+wide-none Inverted = refl
+wide-none Digits = refl
+
+-- ---- the digits of the groups before each place
+module _ (F : Form) (i f : ℕ) where
+  whole-digits : (k g : ℕ) → lead i ≤ k → k < lead i + wholes i f → groupDigits F i f k g ≡ digits (baseOf F) (wideOf F 9) g
+  unfolding groupDigits
+  whole-digits k g h l = rw (digits-whole i f k h l, unit-nine i k, div-one g)
+
+  tail-digits : (k g : ℕ) → k ≡ lead i + wholes i f → groupDigits F i f k g ≡ digits (baseOf F) (wideOf F (rest f)) (g / 10 ^ (9 - rest f))
+  unfolding groupDigits
+  tail-digits k g e = rw (digits-tail i f k e, unit-fraction i f k (rest f) (tail-side i f k e))
+
+  past-digits : (k g : ℕ) → lead i + wholes i f < k → groupDigits F i f k g ≡ []
+  unfolding groupDigits digits
+  past-digits k g h = rw (digits-past i f k h, wide-none F)
+
+  module _ (gs : List ℕ) where
+    pub to-lead : digitsTo F i f gs (lead i) ≡ digits (baseOf F) (wideOf F (rest i)) (getD gs 0 0)
+    unfolding digitsTo groupDigits digits
+    to-lead =
+        ⊎-elim (λ (e : rest i ≡ 0). rw (e, wide-none F))
+        (λ (h : 0 < rest i). let l : lead i ≡ 1 = omega arith in rw (l, digits-lead i f h, unit-lead i (rest i) h, div-one (getD gs 0 0)))
+        (eq-zero-or-pos (rest i))
+
+    pub to-whole : (n : ℕ) → n ≤ wholes i f → digitsTo F i f gs (lead i + n) ≡ digitsTo F i f gs (lead i) ++ run (baseOf F) (wideOf F 9) (λ k. getD gs k 0) (lead i) n
+    unfolding digitsTo run
+    to-whole zero h = rw (add-zero (lead i)) (sym (append-nil (digitsTo F i f gs (lead i))))
+    to-whole (suc n) h =
+        rw (add-suc (lead i) n, to-whole n (le-trans (le-suc n) h), whole-digits (lead i + n) (getD gs (lead i + n) 0) (omega arith) (omega arith))
+        (append-assoc (digitsTo F i f gs (lead i)) (run (baseOf F) (wideOf F 9) (λ k. getD gs k 0) (lead i) n) (digits (baseOf F) (wideOf F 9) (getD gs (lead i + n) 0)))
+
+    to-past : (n : ℕ) → digitsTo F i f gs (suc (lead i + wholes i f) + n) ≡ digitsTo F i f gs (suc (lead i + wholes i f))
+    unfolding digitsTo
+    to-past zero = rw (add-zero (suc (lead i + wholes i f)))
+    to-past (suc n) =
+        rw (add-suc (suc (lead i + wholes i f)) n, past-digits (suc (lead i + wholes i f) + n) (getD gs (suc (lead i + wholes i f) + n) 0) (omega arith))
+        (append-nil (digitsTo F i f gs (suc (lead i + wholes i f) + n)) ∙ to-past n)
+
+    pub to-end : i + f ≤ 65 → let k = lead i + wholes i f in digitsTo F i f gs 9 ≡ digitsTo F i f gs k ++ digits (baseOf F) (wideOf F (rest f)) (getD gs k 0 / 10 ^ (9 - rest f))
+    unfolding digitsTo
+    to-end h =
+        let k = lead i + wholes i f in
+        let e : suc k + (8 - k) ≡ 9 = omega arith in
+        ap (digitsTo F i f gs) (sym e) ∙ to-past (8 - k) ∙ ap (λ (l : List ℕ). digitsTo F i f gs k ++ l) (tail-digits k (getD gs k 0) refl)
+
+    -- all of them
+    pub to-sides : i + f ≤ 65
+        → digitsTo F i f gs 9 ≡ (digits (baseOf F) (wideOf F (rest i)) (getD gs 0 0) ++ run (baseOf F) (wideOf F 9) (λ k. getD gs k 0) (lead i) (wholes i f)) ++ digits (baseOf F) (wideOf F (rest f)) (getD gs (lead i + wholes i f) 0 / 10 ^ (9 - rest f))
+    to-sides h = to-end h ∙ rw (to-whole (wholes i f) (omega arith), to-lead)
+
+  -- ---- and their counts of bytes
+  pub offset-lead : offset F i f (lead i) ≡ wideOf F (rest i)
+  offset-lead = sym (length-to F i f [] (lead i)) ∙ ap length (to-lead []) ∙ length-digits (baseOf F) (wideOf F (rest i)) 0
+
+  pub offset-whole : (n : ℕ) → n ≤ wholes i f → offset F i f (lead i + n) ≡ wideOf F (rest i) + wideOf F 9 * n
+  offset-whole n h =
+      sym (length-to F i f [] (lead i + n)) ∙ ap length (to-whole [] n h) ∙ length-append (digitsTo F i f [] (lead i)) _
+      ∙ rw (length-to F i f [] (lead i), offset-lead, length-run)
+
+  pub size-sides : i + f ≤ 65 → sizeIn F i f ≡ wideOf F (rest i) + wideOf F 9 * wholes i f + wideOf F (rest f)
+  size-sides h =
+      sym (length-to F i f [] 9) ∙ ap length (to-end [] h) ∙ length-append (digitsTo F i f [] (lead i + wholes i f)) _
+      ∙ rw (length-to F i f [] (lead i + wholes i f), offset-whole (wholes i f) (omega arith), length-digits)

@@ -1,0 +1,100 @@
+-- The three parts are those of all groups.
+-- Assumes what the contract requires, and nothing else.
+use denote.Ref.{now}
+use Prim.Native.Nat.{ℕ, _+_, _-_, _*_}
+use mathlib.Core.Path.{_≡_, _∙_}
+use native.Mathlib.Omega.{arith}
+use Rattle.groups.specs.Course.{laidAt, lead, wholes}
+use Rattle.groups.proofs.Accept.{well-digits}
+use lib.Dec.{lit<, lit≤}
+use Rattle.groups.proofs.Sizes.{digits-size, sides-sum}
+use Rattle.groups.proofs.Parts.{digits-all}
+use borrow.Author.Needs.{needs}
+use Rattle.groups.proofs.writer.put_digits.Statement.{statement}
+use Rattle.groups.proofs.writer.put_digits.Tie as tie
+
+sides-of-requires : tie.Need-sides-of-requires
+sides-of-requires c κs =
+    let a = c .before .args in
+    let d = well-digits (a .intg) (a .frac) (now (a .groups)) (c .before .pre .0) in
+    d .1 .0
+
+element-copy-out-put-group : tie.Need-element-copy-out-put-group
+element-copy-out-put-group c = search needs
+
+put-group-requires : tie.Need-put-group-requires
+put-group-requires c κs =
+    let a = c .before .before .before .before .args in
+    let d = well-digits (a .intg) (a .frac) (now (a .groups)) (c .before .before .before .before .pre .0) in
+    let s = c .before .before .sides-of .ensures in
+    let z = digits-size (a .intg) (a .frac) (d .1 .1) (d .1 .0) in
+    omega arith
+
+put-nines-requires : tie.Need-put-nines-requires
+put-nines-requires c κs =
+    let a = c .before .before .before .before .before .before .before .before .args in
+    let d = well-digits (a .intg) (a .frac) (now (a .groups)) (c .before .before .before .before .before .before .before .before .pre .0) in
+    let s = c .before .before .before .before .before .before .sides-of .ensures in
+    let z = digits-size (a .intg) (a .frac) (d .1 .1) (d .1 .0) in
+    let k = c .before .before .before .put-group .kept .0 in
+    omega arith
+
+mul-put-group : tie.Need-mul-put-group
+mul-put-group c = search needs
+
+element-copy-out-put-group-2 : tie.Need-element-copy-out-put-group-2
+element-copy-out-put-group-2 c =
+    let a = c .before .before .before .before .before .before .before .before .before .before .before .before .args in
+    let d = well-digits (a .intg) (a .frac) (now (a .groups)) (c .before .before .before .before .before .before .before .before .before .before .before .before .pre .0) in
+    let s = c .before .before .before .before .before .before .before .before .before .before .sides-of .ensures in
+    omega arith
+
+sub-power : tie.Need-sub-power
+sub-power c = search needs
+
+power-requires : tie.Need-power-requires
+power-requires c κs = search needs
+
+div-put-group : tie.Need-div-put-group
+div-put-group c = search needs
+
+put-group-requires-2 : tie.Need-put-group-requires-2
+put-group-requires-2 c κs =
+    let a = c .before .before .before .before .before .before .before .before .before .before .before .before .before .before .before .args in
+    let d = well-digits (a .intg) (a .frac) (now (a .groups)) (c .before .before .before .before .before .before .before .before .before .before .before .before .before .before .before .pre .0) in
+    let s = c .before .before .before .before .before .before .before .before .before .before .before .before .before .sides-of .ensures in
+    let z = digits-size (a .intg) (a .frac) (d .1 .1) (d .1 .0) in
+    let k = c .before .before .before .before .before .before .before .before .before .before .put-group .kept .0 in
+    let m = c .before .before .before .before .before .before .put-nines .kept .0 in
+    let p : c .before .before .before .before .before .before .put-nines .result + c .before .before .before .before .before .before .before .before .before .before .before .before .before .sides-of .result .tail ≡ a .intg + a .frac = rw (c .before .before .before .before .before .before .put-nines .ensures .0, s .0 .0, s .0 .1, s .1 .0, s .1 .1) (sides-sum (a .intg) (a .frac)) in
+    (rw (p, m, k) (rw z at (c .before .before .before .before .before .before .before .before .before .before .before .before .before .before .before .pre .1)), (lit< tt, lit≤ tt))
+
+same-length : tie.Need-same-length
+same-length c = search needs
+
+returns : tie.Need-returns
+unfolding laidAt
+returns c =
+    let a = c .before .before .before .before .before .before .before .before .before .before .before .before .before .before .before .before .before .before .args in
+    let d = well-digits (a .intg) (a .frac) (now (a .groups)) (c .before .before .before .before .before .before .before .before .before .before .before .before .before .before .before .before .before .before .pre .0) in
+    let s = c .before .before .before .before .before .before .before .before .before .before .before .before .before .before .before .before .sides-of .ensures in
+    let e : lead (a .intg) + wholes (a .intg) (a .frac) - lead (a .intg) ≡ wholes (a .intg) (a .frac) = omega arith in
+    c .before .before .put-group2 .ensures
+    ∙ rw (c .before .before .before .before .before .before .before .before .before .put-nines .ensures .1, c .before .before .before .before .before .before .before .before .before .put-nines .ensures .0, c .before .before .before .before .before .before .before .before .before .before .before .before .before .put-group .ensures, c .before .before .before .power .ensures .0, s .0 .0, s .0 .1, s .1 .0, s .1 .1, e) (digits-all (a .intg) (a .frac) (now (a .groups)) (now (a .out)) (d .1 .0) (c .before .before .before .before .before .before .before .before .before .before .before .before .before .before .before .before .before .before .pre .1) (d .1 .1))
+
+pub put-digits-spec : {M : Type 1} → statement M
+put-digits-spec =
+    tie.close
+    (tie.spec
+    sides-of-requires
+    element-copy-out-put-group
+    put-group-requires
+    put-nines-requires
+    mul-put-group
+    element-copy-out-put-group-2
+    sub-power
+    power-requires
+    div-put-group
+    put-group-requires-2
+    same-length
+    returns)
