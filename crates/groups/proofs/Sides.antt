@@ -6,15 +6,15 @@ use mathlib.Core.Bool.{Bool, true, false, cond}
 use mathlib.Core.List.{List, [], _∷_, _++_, append-nil, append-assoc}
 use mathlib.Core.Logic.{⊎-elim}
 use Prim.Native.Nat.{ℕ, zero, suc, _+_, _-_, _*_, _/_, _^_, _≤_, _<_, min}
-use native.Mathlib.Nat.{add-zero, add-suc, div-one, eq-zero-or-pos, le-trans, le-suc}
+use native.Mathlib.Nat.{add-zero, add-suc, div-one, eq-zero-or-pos, le-trans, le-suc, zero-mul}
 use native.Mathlib.Numerals.{add-one}
 use native.Mathlib.Omega.{arith}
 use lib.Dec.{ltb}
 use lib.ListN.{length, getD, length-append}
 use borrow.Author.Tests.{lt-ltb, le-ltb}
-use Rattle.groups.specs.Numbers.{digits}
+use Rattle.groups.specs.Numbers.{number, digits}
 use Rattle.groups.specs.Layout.{baseOf, wideOf, width, groupsOf, side, digitsAt, offset, sizeIn, size}
-use Rattle.groups.specs.Read.{unitOf}
+use Rattle.groups.specs.Read.{unitOf, groupAt, rangeAt, storedAt}
 use Rattle.groups.specs.Write.{groupDigits, digitsTo}
 use Rattle.groups.specs.Course.{run, rest, lead, wholes}
 use Rattle.groups.specs.declared.Form.{Form}
@@ -131,3 +131,17 @@ module _ (F : Form) (i f : ℕ) where
   size-sides h =
       sym (length-to F i f [] 9) ∙ ap length (to-end [] h) ∙ length-append (digitsTo F i f [] (lead i + wholes i f)) _
       ∙ rw (length-to F i f [] (lead i + wholes i f), offset-whole (wholes i f) (omega arith), length-digits)
+
+-- ---- past the last place there is nothing to read
+module _ (F : Form) (i f : ℕ) (ds : List ℕ) (k : ℕ) (h : lead i + wholes i f < k) where
+  past-group : groupAt F i f ds k ≡ 0
+  unfolding groupAt number
+  past-group = rw (digits-past i f k h, wide-none F)
+
+  pub past-range : rangeAt F i f ds k ≡ true
+  unfolding rangeAt
+  past-range = rw (past-group, digits-past i f k h)
+
+  pub past-stored : storedAt F i f ds k ≡ 0
+  unfolding storedAt
+  past-stored = rw past-group (zero-mul (unitOf i k (digitsAt i f k)))

@@ -6,7 +6,7 @@ use mathlib.Core.Logic.{⊎-elim}
 use mathlib.Core.List.{List}
 use Prim.Native.Nat.{ℕ, zero, suc, _+_, _<_}
 use native.Mathlib.Nat.{le-of-suc-le-suc, not-suc-le-zero, eq-or-lt-of-le, le-refl, lt-irrefl, le-suc, le-trans}
-use lib.ListN.{length, getD, set}
+use lib.ListN.{length, getD, set, replicate}
 use lib.Seq.{ext-getD, getD-set-same, getD-set-other}
 use borrow.Author.Count.{below-more}
 use lib.Dec.{T}
@@ -57,3 +57,8 @@ all-each p n e k h = is-true (p k) (at p n (subst T (sym e) tt) k h)
     is-true : (b : Bool) → T b → b ≡ true
     is-true true t = refl
     is-true false t = absurd t
+
+pub zeros-at : (n j : ℕ) → _≡_ {A = ℕ} (getD (replicate n 0) j 0) 0
+zeros-at zero j = refl
+zeros-at (suc n) zero = refl
+zeros-at (suc n) (suc j) = zeros-at n j

@@ -1,10 +1,11 @@
 -- What private functions do on the way; no public promise rests on it.
 -- Assumes nothing.
-use Prim.Native.Nat.{ℕ, zero, suc, _+_, _-_, _*_, _/_, min}
+use Prim.Native.Nat.{ℕ, zero, suc, _+_, _-_, _*_, _/_, _<_, min}
+use mathlib.Core.Path.{_≡_}
 use mathlib.Core.Bool.{Bool, true, false, cond}
 use mathlib.Core.List.{List, [], _++_, map}
 use lib.Dec.{ltb, eqb}
-use lib.ListN.{take, drop}
+use lib.ListN.{getD, take, drop}
 use Rattle.groups.specs.Numbers.{digits}
 use Rattle.groups.specs.Layout.{offset}
 use Rattle.groups.specs.Packed.{invert}
@@ -60,3 +61,11 @@ lead n = min 1 (rest n)
 -- the whole groups of both sides
 abbrev pub wholes : ℕ → ℕ → ℕ
 wholes i f = i / 9 + f / 9
+
+-- the number x that the four bytes from `at` on write, highest first
+pub record Four (bs : List ℕ) (at x : ℕ) : Type 0 where
+  pub is : x ≡ ((getD bs at 0 * 256 + getD bs (at + 1) 0) * 256 + getD bs (at + 2) 0) * 256 + getD bs (at + 3) 0
+  pub first : getD bs at 0 < 256
+  pub second : getD bs (at + 1) 0 < 256
+  pub third : getD bs (at + 2) 0 < 256
+  pub fourth : getD bs (at + 3) 0 < 256

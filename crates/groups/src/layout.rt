@@ -3,7 +3,7 @@ use super::Counted;
 use super::Form;
 ghost use mathlib.Core.Path.{_≡_};
 ghost use Prim.Native.Nat.{_+_, _/_, _^_, _<_, _≤_};
-ghost use Rattle.groups.specs.Layout.{baseOf, wideOf, width, side, digitsAt, sizeIn, size};
+ghost use Rattle.groups.specs.Layout.{baseOf, wideOf, width, digitsAt, sizeIn, size};
 ghost use Rattle.groups.specs.Course.{rest, lead, wholes};
 ghost use Rattle.groups.specs.Read.{inRange, unitOf};
 ghost use Rattle.groups.specs.Write.{told, sizeOf};
@@ -69,28 +69,19 @@ pub(crate) fn power(d: usize) -> u32
     }
 }
 
-// The digits of the j-th group from the point, of a side of n digits.
-fn side_digits(n: usize, j: usize) -> usize
-    ensures { λ r. ⌜ (r ≡ side n j) × (r ≤ 9) ⌝ }
-{
-    let full = n / 9;
-    if j < full {
-        return 9;
-    }
-    if j == full { n % 9 } else { 0 }
-}
-
 // The digits of the group at place k.
 pub(crate) fn digits_at(intg: usize, frac: usize, k: usize) -> usize
-    requires { ⌜ intg ≤ 65 ⌝ }
+    requires { ⌜ intg + frac ≤ 65 ⌝ }
     ensures { λ r. ⌜ (r ≡ digitsAt intg frac k) × (r ≤ 9) ⌝ }
 {
-    let n = (intg + 8) / 9;
-    if k < n {
-        side_digits(intg, n - 1 - k)
-    } else {
-        side_digits(frac, k - n)
+    let p = sides_of(intg, frac);
+    if k < p.first {
+        return p.lead;
     }
+    if k < p.last {
+        return 9;
+    }
+    if k == p.last { p.tail } else { 0 }
 }
 
 // What the number of a group of d digits at place k is stored times.

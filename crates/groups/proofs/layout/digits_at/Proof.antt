@@ -1,43 +1,42 @@
--- A place before the integral groups' count is one of theirs, counted from the point, and any other one of the fraction.
+-- The rests and the whole groups of both sides have these digits, and past them there are none.
 -- Assumes what the contract requires, and nothing else.
-use mathlib.Core.Path.{_∙_, sym}
-use borrow.Author.Tests.{lt-ltb, le-ltb}
-use Rattle.groups.specs.Layout.{digitsAt, groupsOf}
+use Prim.Native.Nat.{_<_}
+use mathlib.Core.Path.{_≡_, sym, _∙_}
+use native.Mathlib.Omega.{arith}
+use Rattle.groups.specs.Course.{rest}
+use Rattle.groups.proofs.Sides.{digits-lead, digits-whole, digits-tail, digits-past}
 use borrow.Author.Needs.{needs}
 use Rattle.groups.proofs.layout.digits_at.Statement.{statement}
 use Rattle.groups.proofs.layout.digits_at.Tie as tie
 
-add-n : tie.Need-add-n
-add-n c = search needs
-
-sub-side-digits : tie.Need-sub-side-digits
-sub-side-digits c = search needs
-
-sub-side-digits-2 : tie.Need-sub-side-digits-2
-sub-side-digits-2 c = search needs
-
-side-digits-requires : tie.Need-side-digits-requires
-side-digits-requires c κs = search needs
-
-side-digits-requires-2 : tie.Need-side-digits-requires-2
-side-digits-requires-2 c κs = search needs
+sides-of-requires : tie.Need-sides-of-requires
+sides-of-requires c κs = search needs
 
 returns : tie.Need-returns
-unfolding digitsAt groupsOf
-returns c = (c .side-digits .ensures .0 ∙ sym (simp (lt-ltb _ _ (c .before .if1 .taken))), c .side-digits .ensures .1)
+returns c =
+    let a = c .before .before .before .args in
+    let s = c .before .before .sides-of .ensures in
+    let e : a .k ≡ 0 = omega arith in
+    let h : 0 < rest (a .intg) = omega arith in
+    (s .0 .0 ∙ rw e (sym (digits-lead (a .intg) (a .frac) h)), omega arith)
 
 returns-2 : tie.Need-returns-2
-unfolding digitsAt groupsOf
-returns-2 c = (c .side-digits2 .ensures .0 ∙ sym (simp (le-ltb _ _ (c .before .if1 .left))), c .side-digits2 .ensures .1)
+returns-2 c =
+    let a = c .before .before .before .before .before .args in
+    let s = c .before .before .before .before .sides-of .ensures in
+    (sym (digits-whole (a .intg) (a .frac) (a .k) (omega arith) (omega arith)), omega arith)
+
+returns-3 : tie.Need-returns-3
+returns-3 c =
+    let a = c .before .before .before .before .before .before .before .args in
+    let s = c .before .before .before .before .before .before .sides-of .ensures in
+    (s .1 .1 ∙ sym (digits-tail (a .intg) (a .frac) (a .k) (omega arith)), omega arith)
+
+returns-4 : tie.Need-returns-4
+returns-4 c =
+    let a = c .before .before .before .before .before .before .before .args in
+    let s = c .before .before .before .before .before .before .sides-of .ensures in
+    (sym (digits-past (a .intg) (a .frac) (a .k) (omega arith)), omega arith)
 
 pub digits-at-spec : {M : Type 1} → statement M
-digits-at-spec =
-    tie.close
-    (tie.spec
-    add-n
-    sub-side-digits
-    sub-side-digits-2
-    side-digits-requires
-    side-digits-requires-2
-    returns
-    returns-2)
+digits-at-spec = tie.close (tie.spec sides-of-requires returns returns-2 returns-3 returns-4)

@@ -27,12 +27,12 @@ Ds s = digitsIn (s .args .form) (now (s .args .bytes))
 is-wide : (c : tie.After-wide-of) → let a = c .before .before .before .args in c .wide-of .result ≡ wideOf (a .form) (digitsAt (a .intg) (a .frac) (a .k))
 is-wide c = c .wide-of .ensures .0 ∙ ap (wideOf (c .before .before .before .args .form)) (c .before .digits-at .ensures .0)
 
-is-group : (c : tie.After-read-group)
-    → let s = c .before .before .before .before .before in c .read-group .result ≡ groupAt (s .args .form) (s .args .intg) (s .args .frac) (Ds s) (s .args .k)
+is-group : (c : tie.After-read-number)
+    → let s = c .before .before .before .before .before in c .read-number .result ≡ groupAt (s .args .form) (s .args .intg) (s .args .frac) (Ds s) (s .args .k)
 unfolding groupAt
 is-group c =
     let s = c .before .before .before .before .before in
-    c .read-group .ensures ∙ simp (c .before .base-of .ensures .0, is-wide (c .before .before), s .pre .1 .0)
+    c .read-number .ensures ∙ simp (c .before .base-of .ensures .0, is-wide (c .before .before), s .pre .1 .0)
 
 is-power : (c : tie.After-power)
     → let a = c .before .before .before .before .before .before .args in c .power .result ≡ 10 ^ digitsAt (a .intg) (a .frac) (a .k)
@@ -63,11 +63,11 @@ base-of-requires c κs = search needs
 cast-base : tie.Need-cast-base
 cast-base c = search needs
 
-read-group-requires : tie.Need-read-group-requires
-read-group-requires c κs =
+read-number-requires : tie.Need-read-number-requires
+read-number-requires c κs =
     let d = c .before .before .digits-at in (
       next-fits (c .before),
-      (omega arith, rw (c .base-of .ensures .0, c .before .wide-of .ensures .0) (form-fits (c .before .before .before .before .args .form) (d .result) (d .ensures .1))),
+      (c .base-of .ensures .0, rw (c .base-of .ensures .0, c .before .wide-of .ensures .0) (form-fits (c .before .before .before .before .args .form) (d .result) (d .ensures .1))),
     )
 
 add-next : tie.Need-add-next
@@ -98,7 +98,7 @@ mul-t16 c =
     let g = c .before .before .before .before in
     let a = g .before .before .before .before .before .args in
     let d = g .before .before .before .digits-at in
-    let h = stored-lt (a .intg) (a .k) (d .result) (g .read-group .result) (d .ensures .1) (rw (c .before .before .before .power .ensures .0) at (c .before .before .if1 .left)) in
+    let h = stored-lt (a .intg) (a .k) (d .result) (g .read-number .result) (d .ensures .1) (rw (c .before .before .before .power .ensures .0) at (c .before .before .if1 .left)) in
     record { fits = lt-trans {m = 1000000000} (rw (c .before .low .ensures, c .unit .ensures .0) h) (lit< tt) }
 
 returns-2 : tie.Need-returns-2
@@ -117,7 +117,7 @@ read-one-spec =
     wide-of-requires
     base-of-requires
     cast-base
-    read-group-requires
+    read-number-requires
     add-next
     power-requires
     cast-if1
