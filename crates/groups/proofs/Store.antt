@@ -1,4 +1,4 @@
--- The laws of writing: one digit more of a group, from its last to its first; how many bytes there are, and how large.
+-- The laws of writing: how many bytes there are, and how large; what is written after a front.
 -- Assumes nothing.
 use mathlib.Core.Path.{_≡_, refl, _∙_}
 use mathlib.Core.List.{List, _∷_, _++_, map, map-append, append-assoc}
@@ -17,19 +17,6 @@ use Rattle.groups.specs.Read.{unitOf}
 use Rattle.groups.specs.Write.{digitsTo, groupDigits, written}
 use Rattle.groups.proofs.Radix.{length-digits, below-append, digits-below}
 use Rattle.groups.proofs.Marks.{length-of}
-
-drop-set-same : (out : List ℕ) (j v : ℕ) → j < length out → drop j (set out j v) ≡ v ∷ drop (suc j) out
-drop-set-same out j v h =
-    drop-cons (set out j v) j 0 (lt-length-set out j v h) ∙ rw (getD-set-same out j v 0 h, drop-set-lt (suc j) out j v (le-refl (suc j)))
-
--- with the last of i + 1 digits stored, what is left to write is the i before it
-pub put-more : (b : ℕ) (out : List ℕ) (at i x : ℕ) → at + i < length out
-    → let out′ = set out (at + i) (x % b) in
-    take at out′ ++ (digits b i (x / b) ++ drop (at + i) out′) ≡ take at out ++ (digits b (suc i) x ++ drop (at + suc i) out)
-unfolding digits
-put-more b out at i x h =
-    let m : at ≤ at + i = omega arith in
-    rw (take-set-le at out (at + i) (x % b) m, drop-set-same out (at + i) (x % b) h, append-assoc, add-suc at i)
 
 pub length-to : (F : Form) (i f : ℕ) (gs : List ℕ) (k : ℕ) → length (digitsTo F i f gs k) ≡ offset F i f k
 unfolding digitsTo offset groupDigits

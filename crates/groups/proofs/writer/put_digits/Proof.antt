@@ -4,9 +4,8 @@ use denote.Ref.{now}
 use Prim.Native.Nat.{ℕ, _+_, _-_, _*_}
 use mathlib.Core.Path.{_≡_, _∙_}
 use native.Mathlib.Omega.{arith}
-use Rattle.groups.specs.Course.{laidAt, lead, wholes}
+use Rattle.groups.specs.Course.{lead, wholes}
 use Rattle.groups.proofs.Accept.{well-digits}
-use lib.Dec.{lit<, lit≤}
 use Rattle.groups.proofs.Sizes.{digits-size, sides-sum}
 use Rattle.groups.proofs.Parts.{digits-all}
 use borrow.Author.Needs.{needs}
@@ -19,11 +18,11 @@ sides-of-requires c κs =
     let d = well-digits (a .intg) (a .frac) (now (a .groups)) (c .before .pre .0) in
     d .1 .0
 
-element-copy-out-put-group : tie.Need-element-copy-out-put-group
-element-copy-out-put-group c = search needs
+element-copy-out-put-tens : tie.Need-element-copy-out-put-tens
+element-copy-out-put-tens c = search needs
 
-put-group-requires : tie.Need-put-group-requires
-put-group-requires c κs =
+put-tens-requires : tie.Need-put-tens-requires
+put-tens-requires c κs =
     let a = c .before .before .before .before .args in
     let d = well-digits (a .intg) (a .frac) (now (a .groups)) (c .before .before .before .before .pre .0) in
     let s = c .before .before .sides-of .ensures in
@@ -36,14 +35,14 @@ put-nines-requires c κs =
     let d = well-digits (a .intg) (a .frac) (now (a .groups)) (c .before .before .before .before .before .before .before .before .pre .0) in
     let s = c .before .before .before .before .before .before .sides-of .ensures in
     let z = digits-size (a .intg) (a .frac) (d .1 .1) (d .1 .0) in
-    let k = c .before .before .before .put-group .kept .0 in
+    let k = c .before .before .before .put-tens .kept .0 in
     omega arith
 
-mul-put-group : tie.Need-mul-put-group
-mul-put-group c = search needs
+mul-put-tens : tie.Need-mul-put-tens
+mul-put-tens c = search needs
 
-element-copy-out-put-group-2 : tie.Need-element-copy-out-put-group-2
-element-copy-out-put-group-2 c =
+element-copy-out-put-tens-2 : tie.Need-element-copy-out-put-tens-2
+element-copy-out-put-tens-2 c =
     let a = c .before .before .before .before .before .before .before .before .before .before .before .before .args in
     let d = well-digits (a .intg) (a .frac) (now (a .groups)) (c .before .before .before .before .before .before .before .before .before .before .before .before .pre .0) in
     let s = c .before .before .before .before .before .before .before .before .before .before .sides-of .ensures in
@@ -55,46 +54,45 @@ sub-power c = search needs
 power-requires : tie.Need-power-requires
 power-requires c κs = search needs
 
-div-put-group : tie.Need-div-put-group
-div-put-group c = search needs
+div-put-tens : tie.Need-div-put-tens
+div-put-tens c = search needs
 
-put-group-requires-2 : tie.Need-put-group-requires-2
-put-group-requires-2 c κs =
+put-tens-requires-2 : tie.Need-put-tens-requires-2
+put-tens-requires-2 c κs =
     let a = c .before .before .before .before .before .before .before .before .before .before .before .before .before .before .before .args in
     let d = well-digits (a .intg) (a .frac) (now (a .groups)) (c .before .before .before .before .before .before .before .before .before .before .before .before .before .before .before .pre .0) in
     let s = c .before .before .before .before .before .before .before .before .before .before .before .before .before .sides-of .ensures in
     let z = digits-size (a .intg) (a .frac) (d .1 .1) (d .1 .0) in
-    let k = c .before .before .before .before .before .before .before .before .before .before .put-group .kept .0 in
+    let k = c .before .before .before .before .before .before .before .before .before .before .put-tens .kept .0 in
     let m = c .before .before .before .before .before .before .put-nines .kept .0 in
     let p : c .before .before .before .before .before .before .put-nines .result + c .before .before .before .before .before .before .before .before .before .before .before .before .before .sides-of .result .tail ≡ a .intg + a .frac = rw (c .before .before .before .before .before .before .put-nines .ensures .0, s .0 .0, s .0 .1, s .1 .0, s .1 .1) (sides-sum (a .intg) (a .frac)) in
-    (rw (p, m, k) (rw z at (c .before .before .before .before .before .before .before .before .before .before .before .before .before .before .before .pre .1)), (lit< tt, lit≤ tt))
+    rw (p, m, k) (rw z at (c .before .before .before .before .before .before .before .before .before .before .before .before .before .before .before .pre .1))
 
 same-length : tie.Need-same-length
 same-length c = search needs
 
 returns : tie.Need-returns
-unfolding laidAt
 returns c =
     let a = c .before .before .before .before .before .before .before .before .before .before .before .before .before .before .before .before .before .before .args in
     let d = well-digits (a .intg) (a .frac) (now (a .groups)) (c .before .before .before .before .before .before .before .before .before .before .before .before .before .before .before .before .before .before .pre .0) in
     let s = c .before .before .before .before .before .before .before .before .before .before .before .before .before .before .before .before .sides-of .ensures in
     let e : lead (a .intg) + wholes (a .intg) (a .frac) - lead (a .intg) ≡ wholes (a .intg) (a .frac) = omega arith in
-    c .before .before .put-group2 .ensures
-    ∙ rw (c .before .before .before .before .before .before .before .before .before .put-nines .ensures .1, c .before .before .before .before .before .before .before .before .before .put-nines .ensures .0, c .before .before .before .before .before .before .before .before .before .before .before .before .before .put-group .ensures, c .before .before .before .power .ensures .0, s .0 .0, s .0 .1, s .1 .0, s .1 .1, e) (digits-all (a .intg) (a .frac) (now (a .groups)) (now (a .out)) (d .1 .0) (c .before .before .before .before .before .before .before .before .before .before .before .before .before .before .before .before .before .before .pre .1) (d .1 .1))
+    c .before .before .put-tens2 .ensures
+    ∙ rw (c .before .before .before .before .before .before .before .before .before .put-nines .ensures .1, c .before .before .before .before .before .before .before .before .before .put-nines .ensures .0, c .before .before .before .before .before .before .before .before .before .before .before .before .before .put-tens .ensures, c .before .before .before .power .ensures .0, s .0 .0, s .0 .1, s .1 .0, s .1 .1, e) (digits-all (a .intg) (a .frac) (now (a .groups)) (now (a .out)) (d .1 .0) (c .before .before .before .before .before .before .before .before .before .before .before .before .before .before .before .before .before .before .pre .1) (d .1 .1))
 
 pub put-digits-spec : {M : Type 1} → statement M
 put-digits-spec =
     tie.close
     (tie.spec
     sides-of-requires
-    element-copy-out-put-group
-    put-group-requires
+    element-copy-out-put-tens
+    put-tens-requires
     put-nines-requires
-    mul-put-group
-    element-copy-out-put-group-2
+    mul-put-tens
+    element-copy-out-put-tens-2
     sub-power
     power-requires
-    div-put-group
-    put-group-requires-2
+    div-put-tens
+    put-tens-requires-2
     same-length
     returns)

@@ -22,14 +22,14 @@ loop-holds c =
     let a = c .before .args in
     (omega arith, (omega arith, (refl, (omega arith, run-start (now (a .out)) (a .at) 10 9 (λ j. getD (now (a .groups)) j 0) (a .from)))))
 
-mul-put-group : tie.Need-mul-put-group Inv-loop μ-loop
-mul-put-group c = omega arith
+mul-put-tens : tie.Need-mul-put-tens Inv-loop μ-loop
+mul-put-tens c = omega arith
 
-element-copy-out-put-group : tie.Need-element-copy-out-put-group Inv-loop μ-loop
-element-copy-out-put-group c = omega arith
+element-copy-out-put-tens : tie.Need-element-copy-out-put-tens Inv-loop μ-loop
+element-copy-out-put-tens c = omega arith
 
-put-group-requires : tie.Need-put-group-requires Inv-loop μ-loop
-put-group-requires c κs = omega arith
+put-tens-requires : tie.Need-put-tens-requires Inv-loop μ-loop
+put-tens-requires c κs = omega arith
 
 add-p : tie.Need-add-p Inv-loop μ-loop
 add-p c = omega arith
@@ -41,7 +41,6 @@ loop-less : tie.Need-loop-less Inv-loop μ-loop
 loop-less c = omega arith
 
 loop-again : tie.Need-loop-again Inv-loop μ-loop
-unfolding laidAt
 loop-again c =
     let a = c .before .before .before .before .before .before .before .before .args in
     let l = c .before .before .before .before .before .before .loop in
@@ -50,10 +49,10 @@ loop-again c =
       (
         omega arith,
         (
-          c .before .before .put-group .kept .0 ∙ l .inv .1 .1 .0,
+          c .before .before .put-tens .kept .0 ∙ l .inv .1 .1 .0,
           (
             omega arith,
-            c .before .before .put-group .ensures
+            c .before .before .put-tens .ensures
                 ∙ rw (i .0, i .1) (run-next (now (a .out)) (a .at) 10 9 (λ j. getD (now (a .groups)) j 0) (a .from) (l .k) (l .inv .0) (omega arith)),
           ),
         ),
@@ -77,9 +76,9 @@ put-nines-spec =
     Inv-loop
     μ-loop
     loop-holds
-    mul-put-group
-    element-copy-out-put-group
-    put-group-requires
+    mul-put-tens
+    element-copy-out-put-tens
+    put-tens-requires
     add-p
     add-k
     loop-less
