@@ -1,16 +1,13 @@
 -- The laws of inverted bytes: to invert a number of four bytes is to invert its digits in base 256, one by one.
 -- Assumes nothing.
-use mathlib.Core.Path.{_≡_, refl, sym, ap, _∙_}
-use mathlib.Core.Bool.{Bool, true, false, cond}
+use mathlib.Core.Path.{_≡_, refl, sym}
+use mathlib.Core.Bool.{Bool, true, false}
 use mathlib.Core.List.{List, [], _∷_, _++_, map, map-append}
 use Prim.Native.Nat.{ℕ, zero, suc, _+_, _-_, _*_, _/_, _%_, _≤_, _<_}
 use native.Mathlib.Omega.{arith}
 use Rattle.groups.specs.Numbers.{digits}
-use Rattle.groups.specs.Packed.{flipFirst, invert, bytesOf}
-use Rattle.groups.specs.Write.{digitsTo, groupDigits}
-use Rattle.groups.specs.Course.{run, shade, shaded, packs, inverts}
-use Rattle.groups.specs.declared.Form.{Form}
-use Rattle.groups.specs.declared.Form.the-variants.{Plain, Inverted, Digits}
+use Rattle.groups.specs.Packed.{invert}
+use Rattle.groups.specs.Course.{run, shade, shaded}
 
 -- w digits of 255 after K
 abbrev ones : ℕ → ℕ → ℕ

@@ -3,17 +3,16 @@
 -- Assumes nothing.
 use mathlib.Core.Path.{_≡_, refl, sym, ap, _∙_}
 use mathlib.Core.Bool.{Bool, true, false, cond}
-use mathlib.Core.List.{List, [], _∷_, _++_, append-nil, append-assoc}
+use mathlib.Core.List.{List, [], _++_, append-nil, append-assoc}
 use mathlib.Core.Logic.{⊎-elim}
-use Prim.Native.Nat.{ℕ, zero, suc, _+_, _-_, _*_, _/_, _^_, _≤_, _<_, min}
+use Prim.Native.Nat.{ℕ, zero, suc, _+_, _-_, _*_, _/_, _^_, _≤_, _<_}
 use native.Mathlib.Nat.{add-zero, add-suc, div-one, eq-zero-or-pos, le-trans, le-suc, zero-mul}
-use native.Mathlib.Numerals.{add-one}
 use native.Mathlib.Omega.{arith}
 use lib.Dec.{ltb}
 use lib.ListN.{length, getD, length-append}
 use borrow.Author.Tests.{lt-ltb, le-ltb}
 use Rattle.groups.specs.Numbers.{number, digits}
-use Rattle.groups.specs.Layout.{baseOf, wideOf, width, groupsOf, side, digitsAt, offset, sizeIn, size}
+use Rattle.groups.specs.Layout.{baseOf, wideOf, width, groupsOf, side, digitsAt, offset, sizeIn}
 use Rattle.groups.specs.Read.{unitOf, groupAt, rangeAt, storedAt}
 use Rattle.groups.specs.Write.{groupDigits, digitsTo}
 use Rattle.groups.specs.Course.{run, rest, lead, wholes}

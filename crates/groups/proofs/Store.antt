@@ -1,19 +1,15 @@
 -- The laws of writing: how many bytes there are, and how large; what is written after a front.
 -- Assumes nothing.
 use mathlib.Core.Path.{_≡_, refl, _∙_}
-use mathlib.Core.List.{List, _∷_, _++_, map, map-append, append-assoc}
-use Prim.Native.Nat.{ℕ, zero, suc, _+_, _/_, _%_, _≤_, _<_}
-use native.Mathlib.Nat.{add-suc, le-refl, le-of-lt}
-use native.Mathlib.Numerals.{add-one}
-use native.Mathlib.Omega.{arith}
-use lib.ListN.{length, getD, take, drop, set, length-append, length-map}
-use lib.Seq.{take-set-le, drop-cons, drop-set-lt, getD-set-same, lt-length-set, take-at, drop-at, drop-drop, getD-at, set-at, take-suc, length-take-le}
-use Rattle.groups.specs.Layout.{baseOf, wideOf, digitsAt, offset, sizeIn}
+use mathlib.Core.List.{List, _++_, append-assoc}
+use Prim.Native.Nat.{ℕ, zero, suc, _+_, _<_}
+use lib.ListN.{length, take, drop, length-append}
+use lib.Seq.{take-at, drop-at, drop-drop}
+use Rattle.groups.specs.Layout.{baseOf, offset, sizeIn}
 use Rattle.groups.specs.declared.Form.{Form}
 use Rattle.groups.specs.declared.Form.the-variants.{Plain, Inverted, Digits}
 use lib.Dec.{lit<}
-use Rattle.groups.specs.Numbers.{digits, Below}
-use Rattle.groups.specs.Read.{unitOf}
+use Rattle.groups.specs.Numbers.{Below}
 use Rattle.groups.specs.Write.{digitsTo, groupDigits, written}
 use Rattle.groups.proofs.Radix.{length-digits, below-append, digits-below}
 use Rattle.groups.proofs.Marks.{length-of}

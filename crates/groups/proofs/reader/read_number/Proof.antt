@@ -1,8 +1,6 @@
 -- Past the first byte the packed digits are the bytes, or the bytes inverted.
 -- Assumes what the contract requires, and nothing else.
 use denote.Ref.{now}
-use Prim.Native.Nat.{_<_}
-use mathlib.Core.Path.{_≡_}
 use native.Mathlib.Omega.{arith}
 use Rattle.groups.proofs.Marks.{four-plain, four-inverted}
 use Rattle.groups.proofs.Radix.{base-two}

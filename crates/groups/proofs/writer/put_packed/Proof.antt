@@ -1,10 +1,9 @@
 -- The three parts are those of all groups.
 -- Assumes what the contract requires, and nothing else.
 use denote.Ref.{now}
-use Prim.Native.Nat.{ℕ, _+_, _-_, _*_}
+use Prim.Native.Nat.{_+_, _-_}
 use mathlib.Core.Path.{_≡_, _∙_}
 use native.Mathlib.Omega.{arith}
-use Rattle.groups.specs.Layout.{width}
 use Rattle.groups.specs.Course.{lead, wholes}
 use Rattle.groups.proofs.Accept.{well-digits}
 use Rattle.groups.proofs.Caps.{well-groups}

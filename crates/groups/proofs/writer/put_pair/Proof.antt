@@ -1,10 +1,8 @@
 -- Two stores, of the last digit and of the one before it.
 -- Assumes what the contract requires, and nothing else.
 use denote.Ref.{now}
-use Prim.Native.Nat.{ℕ, _+_, _%_}
-use mathlib.Core.Path.{_∙_, ap}
 use native.Mathlib.Omega.{arith}
-use lib.ListN.{set, length-set}
+use lib.ListN.{length-set}
 use Rattle.groups.proofs.Laid.{pair-laid}
 use borrow.Author.Needs.{needs}
 use Rattle.groups.proofs.writer.put_pair.Statement.{statement}

@@ -1,6 +1,5 @@
 -- What is written and what is left to write are the whole, after each turn with two digits less.
 -- Assumes what the contract requires, and nothing else.
-use denote.Ref.{now}
 use Prim.Native.Nat.{ℕ, _+_, _-_, _%_, _≤_}
 use mathlib.Core.Path.{_≡_, refl, sym, _∙_, ap}
 use native.Mathlib.Omega.{arith}
