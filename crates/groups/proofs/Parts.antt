@@ -27,6 +27,23 @@ width-le : (d : ℕ) → width d ≤ 4
 unfolding width
 width-le d = omega arith
 
+-- ---- the places and the room that the three parts have
+pub rest-le : (n : ℕ) → rest n ≤ 8
+rest-le n = omega arith
+
+pub places : (i f : ℕ) → i + f ≤ 65 → ((lead i ≤ lead i + wholes i f) × (lead i + wholes i f ≤ 9)) × (lead i + wholes i f < 9)
+places i f h = omega arith
+
+module _ (i f n : ℕ) (h : i + f ≤ 65) where
+  abbrev whole : ℕ
+  whole = lead i + wholes i f - lead i
+
+  pub packed-room : size i f ≤ n → (width (rest i) ≤ n) × ((width (rest i) + 4 * whole ≤ n) × (width (rest i) + 4 * whole + width (rest f) ≤ n))
+  packed-room l = let z = packed-sides i f h in omega arith
+
+  pub digits-room : f ≤ 30 → sizeIn Digits i f ≤ n → (rest i ≤ n) × ((rest i + 9 * whole ≤ n) × (rest i + 9 * whole + rest f ≤ n))
+  digits-room hf l = let z = digits-size i f hf h in omega arith
+
 module _ (i f : ℕ) (gs out : List ℕ) (h : i + f ≤ 65) where
   pub packed-all : (v : Bool) → size i f ≤ length out → ((k : ℕ) → k < 9 → getD gs k 0 ≤ 4294967295)
       → let w = width (rest i) in let n = wholes i f in let s = rest f in

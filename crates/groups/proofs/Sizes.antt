@@ -1,14 +1,14 @@
 -- The rules of the sizes: a decimal's size is that of its two rests and its whole groups.
 -- Assumes nothing.
 use mathlib.Core.Path.{_≡_, refl}
-use Prim.Native.Nat.{ℕ, zero, suc, _+_, _-_, _*_, _/_, _^_, _≤_}
+use Prim.Native.Nat.{ℕ, zero, suc, _+_, _*_, _/_, _^_, _≤_}
 use native.Mathlib.Omega.{arith}
 use lib.Dec.{leb, leb→le}
 use Rattle.groups.specs.Layout.{baseOf, wideOf, width, offset, sizeIn, size}
 use Rattle.groups.specs.declared.Form.{Form}
 use Rattle.groups.specs.declared.Form.the-variants.{Plain, Inverted, Digits}
 use Rattle.groups.proofs.Finite.{at}
-use Rattle.groups.specs.Course.{rest, lead, wholes}
+use Rattle.groups.specs.Course.{rest, wholes}
 use Rattle.groups.proofs.Sides.{size-sides}
 
 pub packed-sides : (i f : ℕ) → i + f ≤ 65 → size i f ≡ width (rest i) + 4 * wholes i f + width (rest f)
@@ -22,9 +22,6 @@ closed-size i f h = let e = packed-sides i f h in omega arith
 -- as digits a decimal takes a byte for each
 pub digits-size : (i f : ℕ) → f ≤ 30 → i + f ≤ 65 → sizeIn Digits i f ≡ i + f
 digits-size i f hf h = let e = size-sides Digits i f h in omega arith
-
-pub sides-sum : (i f : ℕ) → rest i + 9 * (lead i + wholes i f - lead i) + rest f ≡ i + f
-sides-sum i f = omega arith
 
 packed-pos : (i f : ℕ) → i + f ≤ 65 → 1 ≤ i + f → 1 ≤ size i f
 unfolding width

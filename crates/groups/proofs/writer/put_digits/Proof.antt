@@ -3,11 +3,12 @@
 use denote.Ref.{now}
 use Prim.Native.Nat.{_+_, _-_}
 use mathlib.Core.Path.{_≡_, _∙_}
+use native.Mathlib.Nat.{zero-add}
 use native.Mathlib.Omega.{arith}
+use lib.ListN.{length}
 use Rattle.groups.specs.Course.{lead, wholes}
 use Rattle.groups.proofs.Accept.{well-digits}
-use Rattle.groups.proofs.Sizes.{digits-size, sides-sum}
-use Rattle.groups.proofs.Parts.{digits-all}
+use Rattle.groups.proofs.Parts.{places, digits-room, digits-all}
 use borrow.Author.Needs.{needs}
 use Rattle.groups.proofs.writer.put_digits.Statement.{statement}
 use Rattle.groups.proofs.writer.put_digits.Tie as tie
@@ -26,17 +27,17 @@ put-tens-requires c κs =
     let a = c .before .before .before .before .args in
     let d = well-digits (a .intg) (a .frac) (now (a .groups)) (c .before .before .before .before .pre .0) in
     let s = c .before .before .sides-of .ensures in
-    let z = digits-size (a .intg) (a .frac) (d .1 .1) (d .1 .0) in
-    omega arith
+    let r = digits-room (a .intg) (a .frac) (length (now (a .out))) (d .1 .0) (d .1 .1) (c .before .before .before .before .pre .1) in
+    rw (zero-add (c .before .before .sides-of .result .lead), s .0 .0) (r .0)
 
 put-nines-requires : tie.Need-put-nines-requires
 put-nines-requires c κs =
     let a = c .before .before .before .before .before .before .before .before .args in
     let d = well-digits (a .intg) (a .frac) (now (a .groups)) (c .before .before .before .before .before .before .before .before .pre .0) in
     let s = c .before .before .before .before .before .before .sides-of .ensures in
-    let z = digits-size (a .intg) (a .frac) (d .1 .1) (d .1 .0) in
-    let k = c .before .before .before .put-tens .kept .0 in
-    omega arith
+    let r = digits-room (a .intg) (a .frac) (length (now (a .out))) (d .1 .0) (d .1 .1) (c .before .before .before .before .before .before .before .before .pre .1) in
+    let q = places (a .intg) (a .frac) (d .1 .0) in
+    rw (s .0 .0, s .0 .1, s .1 .0, c .before .before .before .put-tens .kept .0) (q .0, r .1 .0)
 
 mul-put-tens : tie.Need-mul-put-tens
 mul-put-tens c = search needs
@@ -46,7 +47,8 @@ element-copy-out-put-tens-2 c =
     let a = c .before .before .before .before .before .before .before .before .before .before .before .before .args in
     let d = well-digits (a .intg) (a .frac) (now (a .groups)) (c .before .before .before .before .before .before .before .before .before .before .before .before .pre .0) in
     let s = c .before .before .before .before .before .before .before .before .before .before .sides-of .ensures in
-    omega arith
+    let q = places (a .intg) (a .frac) (d .1 .0) in
+    rw (s .1 .0) (q .1)
 
 sub-power : tie.Need-sub-power
 sub-power c = search needs
@@ -62,11 +64,9 @@ put-tens-requires-2 c κs =
     let a = c .before .before .before .before .before .before .before .before .before .before .before .before .before .before .before .args in
     let d = well-digits (a .intg) (a .frac) (now (a .groups)) (c .before .before .before .before .before .before .before .before .before .before .before .before .before .before .before .pre .0) in
     let s = c .before .before .before .before .before .before .before .before .before .before .before .before .before .sides-of .ensures in
-    let z = digits-size (a .intg) (a .frac) (d .1 .1) (d .1 .0) in
-    let k = c .before .before .before .before .before .before .before .before .before .before .put-tens .kept .0 in
-    let m = c .before .before .before .before .before .before .put-nines .kept .0 in
-    let p : c .before .before .before .before .before .before .put-nines .result + c .before .before .before .before .before .before .before .before .before .before .before .before .before .sides-of .result .tail ≡ a .intg + a .frac = rw (c .before .before .before .before .before .before .put-nines .ensures .0, s .0 .0, s .0 .1, s .1 .0, s .1 .1) (sides-sum (a .intg) (a .frac)) in
-    rw (p, m, k) (rw z at (c .before .before .before .before .before .before .before .before .before .before .before .before .before .before .before .pre .1))
+    let r = digits-room (a .intg) (a .frac) (length (now (a .out))) (d .1 .0) (d .1 .1) (c .before .before .before .before .before .before .before .before .before .before .before .before .before .before .before .pre .1) in
+    let p = rw (s .0 .0, s .0 .1, s .1 .0) at (c .before .before .before .before .before .before .put-nines .ensures .0) in
+    rw (s .1 .1, p, c .before .before .before .before .before .before .put-nines .kept .0, c .before .before .before .before .before .before .before .before .before .before .put-tens .kept .0) (r .1 .1)
 
 same-length : tie.Need-same-length
 same-length c = search needs

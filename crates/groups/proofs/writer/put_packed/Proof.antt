@@ -4,11 +4,11 @@ use denote.Ref.{now}
 use Prim.Native.Nat.{_+_, _-_}
 use mathlib.Core.Path.{_≡_, _∙_}
 use native.Mathlib.Omega.{arith}
+use lib.ListN.{length}
 use Rattle.groups.specs.Course.{lead, wholes}
 use Rattle.groups.proofs.Accept.{well-digits}
 use Rattle.groups.proofs.Caps.{well-groups}
-use Rattle.groups.proofs.Sizes.{packed-sides}
-use Rattle.groups.proofs.Parts.{packed-all}
+use Rattle.groups.proofs.Parts.{rest-le, places, packed-room, packed-all}
 use borrow.Author.Needs.{needs}
 use Rattle.groups.proofs.writer.put_packed.Statement.{statement}
 use Rattle.groups.proofs.writer.put_packed.Tie as tie
@@ -27,18 +27,18 @@ put-head-requires c κs =
     let a = c .before .before .before .before .args in
     let d = well-digits (a .intg) (a .frac) (now (a .groups)) (c .before .before .before .before .pre .0) in
     let s = c .before .before .sides-of .ensures in
-    let z = packed-sides (a .intg) (a .frac) (d .1 .0) in
-    rw (s .0 .0) (omega arith)
+    let r = packed-room (a .intg) (a .frac) (length (now (a .out))) (d .1 .0) (c .before .before .before .before .pre .1) in
+    rw (s .0 .0) (rest-le (a .intg), r .0)
 
 put-fours-requires : tie.Need-put-fours-requires
 put-fours-requires c κs =
     let a = c .before .before .before .before .before .before .before .before .args in
     let d = well-digits (a .intg) (a .frac) (now (a .groups)) (c .before .before .before .before .before .before .before .before .pre .0) in
     let s = c .before .before .before .before .before .before .sides-of .ensures in
-    let z = packed-sides (a .intg) (a .frac) (d .1 .0) in
+    let r = packed-room (a .intg) (a .frac) (length (now (a .out))) (d .1 .0) (c .before .before .before .before .before .before .before .before .pre .1) in
+    let q = places (a .intg) (a .frac) (d .1 .0) in
     let w = rw (s .0 .0) at (c .before .before .before .put-head .ensures .0) in
-    let k = c .before .before .before .put-head .kept .0 in
-    rw (w, s .0 .1, s .1 .0) (omega arith)
+    rw (w, s .0 .1, s .1 .0, c .before .before .before .put-head .kept .0) (q .0, r .1 .0)
 
 mul-put-last : tie.Need-mul-put-last
 mul-put-last c = search needs
@@ -48,19 +48,18 @@ element-copy-out-put-last c =
     let a = c .before .before .before .before .before .before .before .before .before .before .before .before .args in
     let d = well-digits (a .intg) (a .frac) (now (a .groups)) (c .before .before .before .before .before .before .before .before .before .before .before .before .pre .0) in
     let s = c .before .before .before .before .before .before .before .before .before .before .sides-of .ensures in
-    omega arith
+    let q = places (a .intg) (a .frac) (d .1 .0) in
+    rw (s .1 .0) (q .1)
 
 put-last-requires : tie.Need-put-last-requires
 put-last-requires c κs =
     let a = c .before .before .before .before .before .before .before .before .before .before .before .before .before .args in
     let d = well-digits (a .intg) (a .frac) (now (a .groups)) (c .before .before .before .before .before .before .before .before .before .before .before .before .before .pre .0) in
     let s = c .before .before .before .before .before .before .before .before .before .before .before .sides-of .ensures in
-    let z = packed-sides (a .intg) (a .frac) (d .1 .0) in
+    let r = packed-room (a .intg) (a .frac) (length (now (a .out))) (d .1 .0) (c .before .before .before .before .before .before .before .before .before .before .before .before .before .pre .1) in
     let w = rw (s .0 .0) at (c .before .before .before .before .before .before .before .before .put-head .ensures .0) in
-    let k = c .before .before .before .before .before .before .before .before .put-head .kept .0 in
-    let m = c .before .before .before .before .put-fours .kept .0 in
-    let p = c .before .before .before .before .put-fours .ensures .0 in
-    rw (s .1 .1) (omega arith)
+    let p = rw (w, s .0 .1, s .1 .0) at (c .before .before .before .before .put-fours .ensures .0) in
+    rw (s .1 .1, p, c .before .before .before .before .put-fours .kept .0, c .before .before .before .before .before .before .before .before .put-head .kept .0) (rest-le (a .frac), r .1 .1)
 
 same-length : tie.Need-same-length
 same-length c = search needs
