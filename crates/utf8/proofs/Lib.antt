@@ -1,4 +1,5 @@
 pub mod Steps
+pub mod Pairs
 pub mod Grammar
 pub mod Place
 pub mod Answers

@@ -39,7 +39,7 @@ module _ (st : State) (s : List ℕ) (at : ℕ) where
   out h = ap (run st at) (drop-of-length-le s h)
 
   -- to the next place
-  step : (st' : State) (j : ℕ) → j ≡ at + 1 → at < length s → next st (getD s at 0) ≡ to st' → run st at (drop at s) ≡ run st' j (drop j s)
+  pub step : (st' : State) (j : ℕ) → j ≡ at + 1 → at < length s → next st (getD s at 0) ≡ to st' → run st at (drop at s) ≡ run st' j (drop j s)
   step st' j e h n =
       ap (run st at) (drop-cons s at 0 h)
       ∙ enter st st' (getD s at 0) (drop (suc at) s) at n

@@ -1,5 +1,5 @@
-// Whether bytes are UTF-8 by RFC 3629, and where they break. ASCII is passed in words; of any other character it is counted how many of its bytes
-// fit.
+// Whether bytes are UTF-8 by RFC 3629, and where they break. ASCII is passed in words, and characters of two bytes at the front in blocks; of any
+// other character it is counted how many of its bytes fit.
 ghost use mathlib.Core.Path.{_≡_};
 ghost use Prim.Native.Nat.{_+_, _≤_, _<_};
 ghost use lib.ListN.{length, getD};
@@ -8,6 +8,8 @@ ghost use Rattle.utf8.specs.Rfc3629.{Tells};
 use ascii::ascii_end;
 use ascii::front8;
 use ascii::front64;
+use pairs::is_tail;
+use pairs::pairs_end;
 
 // The answer: all of it is UTF-8, or the place where it breaks. That is the first byte that can neither begin nor continue a character there;
 // of a character that is cut at the end, the end.
@@ -142,6 +144,28 @@ fn front(s: &[u8]) -> usize
     0
 }
 
+// Whether three bytes are ASCII: what follows is left to words then. No answer is wrong.
+fn is_plain(s: &[u8], at: usize) -> bool
+    requires { ⌜ at + 3 ≤ length (now s) ⌝ }
+{
+    s[at] < 128 && s[at + 1] < 128 && s[at + 2] < 128
+}
+
+// Past characters of one and two bytes, as far as blocks tell. A block ends behind a character, or behind the first byte of one.
+fn past_pairs(s: &[u8], at: usize) -> usize
+    requires { ⌜ at ≤ length (now s) ⌝ }
+    ensures { λ r. ⌜ Runs (now (s .entry)) at r ⌝ }
+{
+    if s.len() < at + 17 || 224 <= s[at] || is_tail(s[at]) || is_plain(s, at) {
+        return at;
+    }
+    let j = pairs_end(s, at);
+    if is_tail(s[j]) {
+        return j + 1;
+    }
+    j
+}
+
 // From the front to the last three bytes, or to the place of a break. Up to there four bytes follow every place, so that the compiler leaves out
 // the tests for the end; and it goes by counts, where each answer of `char_at` would cost some instructions more.
 fn quick(s: &[u8]) -> Step
@@ -151,7 +175,7 @@ fn quick(s: &[u8]) -> Step
         return Step::Next(front8(s));
     }
     let hot = s.len() - 3;
-    let mut i = front(s);
+    let mut i = past_pairs(s, front(s));
     while i < hot {
         let b = s[i];
         if b < 128 {

@@ -28,8 +28,11 @@ sub-hot c = omega arith
 front-requires : tie.Need-front-requires Inv-loop μ-loop
 front-requires c κs = omega arith
 
+past-pairs-requires : tie.Need-past-pairs-requires Inv-loop μ-loop
+past-pairs-requires c κs = c .front .ensures .within
+
 loop-holds : tie.Need-loop-holds Inv-loop μ-loop
-loop-holds c = c .front .ensures
+loop-holds c = then (c .before .front .ensures) (c .past-pairs .ensures)
 
 shared-slice-read-b : tie.Need-shared-slice-read-b Inv-loop μ-loop
 shared-slice-read-b c = omega arith
@@ -127,6 +130,7 @@ quick-spec =
     returns
     sub-hot
     front-requires
+    past-pairs-requires
     loop-holds
     shared-slice-read-b
     add-if3
