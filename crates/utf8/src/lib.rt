@@ -144,11 +144,11 @@ fn front(s: &[u8]) -> usize
     0
 }
 
-// Whether three bytes are ASCII: what follows is left to words then. No answer is wrong.
+// Whether much of what follows is ASCII, told by three bytes: it is left to words then. No answer is wrong.
 fn is_plain(s: &[u8], at: usize) -> bool
-    requires { ⌜ at + 3 ≤ length (now s) ⌝ }
+    requires { ⌜ at + 8 < length (now s) ⌝ }
 {
-    s[at] < 128 && s[at + 1] < 128 && s[at + 2] < 128
+    s[at] < 128 && s[at + 3] < 128 && s[at + 8] < 128
 }
 
 // Past characters of one and two bytes, as far as blocks tell. A block ends behind a character, or behind the first byte of one.
@@ -156,7 +156,10 @@ fn past_pairs(s: &[u8], at: usize) -> usize
     requires { ⌜ at ≤ length (now s) ⌝ }
     ensures { λ r. ⌜ Runs (now (s .entry)) at r ⌝ }
 {
-    if s.len() < at + 17 || 224 <= s[at] || is_tail(s[at]) || is_plain(s, at) {
+    if s.len() < 17 {
+        return at;
+    }
+    if s.len() - 17 < at || is_plain(s, at) || 224 <= s[at] || is_tail(s[at]) {
         return at;
     }
     let j = pairs_end(s, at);

@@ -1,4 +1,5 @@
--- A first block begins at a byte that is no second one, and the byte at the place that is reached tells whether a character ends before it or with it.
+-- The first block begins at a byte that is no second one, and the byte at the place that is reached tells whether a character ends before it or
+-- with it.
 -- Assumes nothing.
 use native.Mathlib.Omega.{arith}
 use Rattle.pairs.proofs.Pairs.{inside}
@@ -7,23 +8,26 @@ use borrow.Author.Needs.{needs}
 use Rattle.utf8.proofs.past_pairs.Statement.{statement}
 use Rattle.utf8.proofs.past_pairs.Tie as tie
 
-add-if1 : tie.Need-add-if1
-add-if1 c = search needs
+returns : tie.Need-returns
+returns c = search needs
 
-shared-slice-read-if2 : tie.Need-shared-slice-read-if2
-shared-slice-read-if2 c = search needs
+sub-if2 : tie.Need-sub-if2
+sub-if2 c = search needs
+
+is-plain-requires : tie.Need-is-plain-requires
+is-plain-requires c κs = omega arith
+
+shared-slice-read-if4 : tie.Need-shared-slice-read-if4
+shared-slice-read-if4 c = omega arith
 
 shared-slice-read-is-tail : tie.Need-shared-slice-read-is-tail
-shared-slice-read-is-tail c = search needs
+shared-slice-read-is-tail c = omega arith
 
 is-tail-requires : tie.Need-is-tail-requires
 is-tail-requires c κs = search needs
 
-is-plain-requires : tie.Need-is-plain-requires
-is-plain-requires c κs = search needs
-
-returns : tie.Need-returns
-returns c = search needs
+returns-2 : tie.Need-returns-2
+returns-2 c = search needs
 
 pairs-end-requires : tie.Need-pairs-end-requires
 pairs-end-requires c κs = search needs
@@ -37,25 +41,26 @@ is-tail-requires-2 c κs = search needs
 add-result : tie.Need-add-result
 add-result c = let l = inside (omega arith) (c .before .before .before .pairs-end .ensures) in omega arith
 
-returns-2 : tie.Need-returns-2
-returns-2 c = half (omega arith) (c .before .before .before .before .before .before .before .is-tail .ensures) (c .before .before .before .before .before .before .if3 .left) (c .before .before .before .pairs-end .ensures) (c .before .is-tail2 .ensures) (c .if5 .taken)
-
 returns-3 : tie.Need-returns-3
-returns-3 c = full (omega arith) (c .before .before .before .before .before .before .before .is-tail .ensures) (c .before .before .before .before .before .before .if3 .left) (c .before .before .before .pairs-end .ensures) (c .before .is-tail2 .ensures) (c .if5 .left)
+returns-3 c = half (omega arith) (c .before .before .before .before .before .is-tail .ensures) (c .before .before .before .before .if5 .left) (c .before .before .before .pairs-end .ensures) (c .before .is-tail2 .ensures) (c .if6 .taken)
+
+returns-4 : tie.Need-returns-4
+returns-4 c = full (omega arith) (c .before .before .before .before .before .is-tail .ensures) (c .before .before .before .before .if5 .left) (c .before .before .before .pairs-end .ensures) (c .before .is-tail2 .ensures) (c .if6 .left)
 
 pub past-pairs-spec : {M : Type 1} → statement M
 past-pairs-spec =
     tie.close
     (tie.spec
-    add-if1
-    shared-slice-read-if2
+    returns
+    sub-if2
+    is-plain-requires
+    shared-slice-read-if4
     shared-slice-read-is-tail
     is-tail-requires
-    is-plain-requires
-    returns
+    returns-2
     pairs-end-requires
     shared-slice-read-is-tail-2
     is-tail-requires-2
     add-result
-    returns-2
-    returns-3)
+    returns-3
+    returns-4)
