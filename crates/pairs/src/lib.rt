@@ -46,16 +46,11 @@ fn block(s: &[u8], at: usize) -> bool
     !bad
 }
 
-// Whether most of a block is ASCII, told by six of its bytes: words pass such a text in fewer steps. No answer is wrong.
+// Whether most of a block is ASCII, told by three of its bytes: words pass such a text in fewer steps. No answer is wrong.
 fn is_plain(s: &[u8], at: usize) -> bool
     requires { ⌜ at + 16 < length (now s) ⌝ }
 {
-    s[at + 16] < 128
-        && s[at + 13] < 128
-        && s[at + 11] < 128
-        && s[at + 8] < 128
-        && s[at + 5] < 128
-        && s[at + 2] < 128
+    s[at + 16] < 128 && s[at + 12] < 128 && s[at + 7] < 128
 }
 
 // Where the block for a place begins: there, or earlier where it would end past a text of n bytes.
