@@ -1,7 +1,7 @@
 -- The machine along bytes of which each is right before the next: behind a character it is at the start, and behind the first byte of one it asks
 -- for the second. So the byte that comes tells the state.
 -- Assumes nothing.
-use Prim.Native.Nat.{ℕ, zero, suc, _+_, _-_, _≤_, _<_}
+use Prim.Native.Nat.{ℕ, zero, suc, _+_, _-_, _<_}
 use mathlib.Core.Path.{_≡_, refl, sym, ap, _∙_, subst}
 use mathlib.Core.Bool.{Bool, true, false}
 use mathlib.Core.List.{List}

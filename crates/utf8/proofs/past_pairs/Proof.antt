@@ -1,5 +1,4 @@
--- The first block begins at a byte that is no second one, and the byte at the place that is reached tells whether a character ends before it or
--- with it.
+-- Blocks begin where a character does, and the byte at the place that they reach tells whether one ends before it or with it.
 -- Assumes nothing.
 use native.Mathlib.Omega.{arith}
 use Rattle.pairs.proofs.Pairs.{inside}
