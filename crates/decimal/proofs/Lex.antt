@@ -4,7 +4,7 @@ use mathlib.Core.Path.{_≡_, refl, sym, ap, _∙_}
 use mathlib.Core.Bool.{Bool, true, false, cond}
 use mathlib.Core.List.{List, [], _∷_, _++_}
 use Prim.Native.Nat.{ℕ, zero, suc, _+_, _-_, _*_, _^_, _≤_, _<_}
-use native.Mathlib.Nat.{le-of-suc-le-suc, not-suc-le-zero, pow-zero, pow-succ', zero-mul, zero-add, mul-le-mul-right, sub-zero, suc-sub-suc, le-refl, le-of-lt, mul-pos, pos-of-ne-zero}
+use native.Mathlib.Nat.{le-of-suc-le-suc, not-suc-le-zero, pow-zero, pow-succ', zero-mul, zero-add, mul-le-mul-right, mul-lt-mul-of-pos-right, sub-zero, suc-sub-suc, le-refl, le-of-lt, mul-pos, pos-of-ne-zero}
 use native.Mathlib.Omega.{arith}
 use lib.Dec.{ltb, lit<, leb·suc-suc}
 use lib.Pow.{pow-add}
@@ -104,6 +104,10 @@ placed-length n gs l e =
     length-append (replicate (8 - n) 0) (gs ++ replicate n 0)
     ∙ rw (length-replicate {A = ℕ} (8 - n) 0, length-append gs (replicate n 0), length-replicate {A = ℕ} n 0, e) (omega arith)
 
+pub equal : (x : ℕ) → orderN x x ≡ Equal
+unfolding orderN
+equal x = simp (le-ltb x x (le-refl x))
+
 -- ---- what the loop over the places shows
 module _ (m : ℕ) (a : List ℕ) (n : ℕ) (b : List ℕ) (lm : m ≤ 8) (ln : n ≤ 8) (ea : length a ≡ 9) (eb : length b ≡ 9) where
   pub same-places : ((j : ℕ) → j < 17 → getD (placed m a) j 0 ≡ getD (placed n b) j 0) → orderN (magnitude m a) (magnitude n b) ≡ Equal
@@ -111,7 +115,7 @@ module _ (m : ℕ) (a : List ℕ) (n : ℕ) (b : List ℕ) (lm : m ≤ 8) (ln : 
   same-places h =
       let e = ext-getD 0 (placed m a) (placed n b) (placed-length m a lm ea ∙ sym (placed-length n b ln eb)) (λ j l. h j (rw (placed-length m a lm ea) at l)) in
       let q = sym (placed-number m a) ∙ ap (number 1000000000) e ∙ placed-number n b in
-      simp (q, le-ltb (magnitude n b) (magnitude n b) (le-refl _))
+      rw q (equal (magnitude n b))
 
   pub less-at : Below 1000000000 a → (k : ℕ) → k < 17 → ((j : ℕ) → j < k → getD (placed m a) j 0 ≡ getD (placed n b) j 0)
       → getD (placed m a) k 0 < getD (placed n b) k 0 → magnitude m a < magnitude n b
@@ -127,6 +131,24 @@ less x y h = simp (lt-ltb x y h)
 pub greater : (x y : ℕ) → y < x → orderN x y ≡ Greater
 unfolding orderN
 greater x y h = simp (le-ltb x y (le-of-lt h), lt-ltb y x h)
+
+pub same-groups : (xs ys : List ℕ) → length xs ≡ length ys → ((j : ℕ) → j < length xs → getD xs j 0 ≡ getD ys j 0)
+    → orderN (number 1000000000 xs) (number 1000000000 ys) ≡ Equal
+same-groups xs ys e h = rw (ext-getD 0 xs ys e h) (equal (number 1000000000 ys))
+
+-- ---- points that meet: the same factor on both sides does not change the order
+scaled : (x y c : ℕ) → 0 < c → ltb (x * c) (y * c) ≡ ltb x y
+scaled x y c h = go (ltb x y) refl
+  where
+    go : (t : Bool) → ltb x y ≡ t → ltb (x * c) (y * c) ≡ t
+    go true e = lt-ltb (x * c) (y * c) (mul-lt-mul-of-pos-right (ltb-true x y e) h)
+    go false e = le-ltb (x * c) (y * c) (mul-le-mul-right c (ltb-false x y e))
+
+pub order-scaled : (m n : ℕ) (xs ys : List ℕ) → m ≡ n → orderN (number 1000000000 xs) (number 1000000000 ys) ≡ orderN (magnitude m xs) (magnitude n ys)
+unfolding orderN magnitude
+order-scaled m n xs ys e =
+    let p = pow-pos-of 1000000000 n (lit< tt) in
+    rw e (simp (scaled (number 1000000000 xs) (number 1000000000 ys) (1000000000 ^ n) p, scaled (number 1000000000 ys) (number 1000000000 xs) (1000000000 ^ n) p))
 
 -- ---- zero
 pub nonzero : (b : ℕ) (xs : List ℕ) (k : ℕ) → 0 < b → (getD xs k 0 ≡ 0 → ⊥) → (number b xs ≡ 0 → ⊥)

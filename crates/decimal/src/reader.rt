@@ -5,7 +5,7 @@ use super::order::below_zero;
 use groups::Form;
 ghost use mathlib.Core.Path.{_≡_};
 ghost use Prim.Native.Nat.{_+_, _<_, _≤_};
-ghost use lib.ListN.{getD};
+ghost use lib.ListN.{length, getD};
 ghost use Rattle.groups.specs.Numbers.{tab, leadingIn, Below};
 ghost use Rattle.decimal.specs.Text.{ofDigits};
 ghost use Rattle.decimal.specs.Read.{negative as isNegative, formOf, decimalOf, finished, refused};
@@ -50,9 +50,9 @@ pub(crate) fn refuse(n: u8) -> Answer
 }
 
 // How many of the first n groups are 0, up to the first that is not.
-fn leading(groups: [u32; 9], n: usize) -> usize
-    requires { ⌜ n ≤ 9 ⌝ }
-    ensures { λ r. ⌜ (r ≡ leadingIn n groups) × (r ≤ n) ⌝ }
+fn leading(groups: &[u32; 9], n: usize) -> usize
+    requires { ⌜ (n ≤ 9) × (length (now groups) ≡ 9) ⌝ }
+    ensures { λ r. ⌜ (r ≡ leadingIn n (now (groups .entry))) × (r ≤ n) ⌝ }
 {
     let mut z = 0;
     while z < n {
@@ -64,16 +64,17 @@ fn leading(groups: [u32; 9], n: usize) -> usize
     z
 }
 
-pub(crate) fn group_or_zero(groups: [u32; 9], i: usize) -> u32
-    ensures { λ r. ⌜ r ≡ getD groups i 0 ⌝ }
+pub(crate) fn group_or_zero(groups: &[u32; 9], i: usize) -> u32
+    requires { ⌜ length (now groups) ≡ 9 ⌝ }
+    ensures { λ r. ⌜ r ≡ getD (now (groups .entry)) i 0 ⌝ }
 {
     if i < 9 { groups[i] } else { 0 }
 }
 
 // The groups without the first z.
-fn shifted(groups: [u32; 9], z: usize) -> [u32; 9]
-    requires { ⌜ z ≤ 9 ⌝ }
-    ensures { λ r. ⌜ r ≡ tab 9 (λ k. getD groups (k + z) 0) ⌝ }
+fn shifted(groups: &[u32; 9], z: usize) -> [u32; 9]
+    requires { ⌜ (z ≤ 9) × (length (now groups) ≡ 9) ⌝ }
+    ensures { λ r. ⌜ r ≡ tab 9 (λ k. getD (now (groups .entry)) (k + z) 0) ⌝ }
 {
     let mut out = [0u32; 9];
     for k in 0..9 {
@@ -117,11 +118,11 @@ pub(crate) fn finish(
         return decimal_of(intg, frac, negative, groups);
     }
     let n = (intg + 8) / 9;
-    let z = leading(groups, n);
+    let z = leading(&groups, n);
     if z == 0 {
         return decimal_of(intg, frac, negative, groups);
     }
-    decimal_of(9 * (n - z), frac, negative, shifted(groups, z))
+    decimal_of(9 * (n - z), frac, negative, shifted(&groups, z))
 }
 
 // The decimal with these digits, whatever follows them.
@@ -135,7 +136,7 @@ pub(crate) fn of_digits(negative: bool, intg: usize, frac: usize, digits: [u8; 6
     Decimal {
         intg,
         frac,
-        sign: below_zero(negative, gs),
+        sign: below_zero(negative, &gs),
         groups: gs,
     }
 }

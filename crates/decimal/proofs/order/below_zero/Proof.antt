@@ -1,5 +1,5 @@
 -- A sign counts only where the groups are not those of a zero.
--- Assumes nothing.
+-- Assumes what the contract requires, and nothing else.
 use mathlib.Core.Path.{sym}
 use Rattle.decimal.specs.Value.{belowZero}
 use borrow.Author.Needs.{needs}

@@ -1,79 +1,25 @@
--- The places passed are equal, and the first that differs decides, since each group is below the base.
+-- Where the points meet the groups alone decide, and else the places.
 -- Assumes what the contract requires, and nothing else.
+use mathlib.Core.Path.{_∙_}
+use denote.Ref.{now}
 use borrow.Author.Needs.{needs}
-use borrow.Author.Count.{below-none, below-more}
-use Prim.Native.Nat.{ℕ, _≤_, _<_, _-_}
-use mathlib.Core.Path.{_≡_, sym, _∙_}
-use native.Mathlib.Omega.{arith}
-use lib.ListN.{getD}
-use Rattle.decimal.specs.Course.{placed}
-use Rattle.decimal.proofs.Lex.{less-at, same-places, less, greater}
+use Rattle.decimal.proofs.Lex.{order-scaled}
 use Rattle.decimal.proofs.order.order_of.Statement.{statement}
 use Rattle.decimal.proofs.order.order_of.Tie as tie
 
-abbrev Inv-loop : tie.InvT-loop
-Inv-loop a m b n k₀ k = (k ≤ 17) × ((j : ℕ) → j < k → getD (placed m a) j 0 ≡ getD (placed n b) j 0)
+aligned-requires : tie.Need-aligned-requires
+aligned-requires c κs = c .before .pre .1
 
-abbrev μ-loop : tie.MeasureT-loop
-μ-loop a m b n k₀ k = 17 - k
+apart-requires : tie.Need-apart-requires
+apart-requires c κs = c .before .pre
 
-loop-holds : tie.Need-loop-holds Inv-loop μ-loop
-loop-holds c = (search needs, below-none _)
-
-place-requires : tie.Need-place-requires Inv-loop μ-loop
-place-requires c κs = omega arith
-
-place-requires-2 : tie.Need-place-requires-2 Inv-loop μ-loop
-place-requires-2 c κs = omega arith
-
-returns : tie.Need-returns Inv-loop μ-loop
+returns : tie.Need-returns
 returns c =
-    let s = c .before .before .before .before .before in
-    let a = s .args in
-    let l = c .before .before .before .before .loop in
-    let d = rw (c .before .before .place .ensures, c .before .place2 .ensures) at (c .if1 .taken) in
-    sym (less _ _ (less-at (a .m) (a .a) (a .n) (a .b) (s .pre .0 .0) (s .pre .0 .1) (search needs) (search needs) (s .pre .1 .0) (l .k) (search needs) (l .inv .1) d))
+    let a = c .before .before .args in
+    c .aligned .ensures ∙ order-scaled (a .m) (a .n) (now (a .a)) (now (a .b)) (c .before .if1 .taken)
 
-returns-2 : tie.Need-returns-2 Inv-loop μ-loop
-returns-2 c =
-    let s = c .before .before .before .before .before .before in
-    let a = s .args in
-    let l = c .before .before .before .before .before .loop in
-    let d = rw (c .before .before .before .place .ensures, c .before .before .place2 .ensures) at (c .if2 .taken) in
-    sym (greater _ _ (less-at (a .n) (a .b) (a .m) (a .a) (s .pre .0 .1) (s .pre .0 .0) (search needs) (search needs) (s .pre .1 .1) (l .k) (search needs) (λ j h. sym (l .inv .1 j h)) d))
-
-add-k : tie.Need-add-k Inv-loop μ-loop
-add-k c = omega arith
-
-loop-less : tie.Need-loop-less Inv-loop μ-loop
-loop-less c = omega arith
-
-loop-again : tie.Need-loop-again Inv-loop μ-loop
-loop-again c =
-    let l = c .before .before .before .before .before .loop in
-    let e : c .before .before .before .place .result ≡ c .before .before .place2 .result = omega arith in
-    (search needs, below-more _ (l .k) (l .inv .1) (sym (c .before .before .before .place .ensures) ∙ e ∙ c .before .before .place2 .ensures))
-
-returns-3 : tie.Need-returns-3 Inv-loop μ-loop
-returns-3 c =
-    let s = c .before .before in
-    let a = s .args in
-    let l = c .before .loop in
-    let e : l .k ≡ 17 = omega arith in
-    sym (same-places (a .m) (a .a) (a .n) (a .b) (s .pre .0 .0) (s .pre .0 .1) (search needs) (search needs) (λ j h. l .inv .1 j (rw e h)))
+returns-2 : tie.Need-returns-2
+returns-2 c = c .apart .ensures
 
 pub order-of-spec : {M : Type 1} → statement M
-order-of-spec =
-    tie.close
-    (tie.spec
-    Inv-loop
-    μ-loop
-    loop-holds
-    place-requires
-    place-requires-2
-    returns
-    returns-2
-    add-k
-    loop-less
-    loop-again
-    returns-3)
+order-of-spec = tie.close (tie.spec aligned-requires apart-requires returns returns-2)

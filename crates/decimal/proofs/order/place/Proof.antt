@@ -1,6 +1,7 @@
 -- Among seventeen places the groups stand so that the points meet, with 0 before and after them.
 -- Assumes what the contract requires, and nothing else.
 use mathlib.Core.Path.{sym, _∙_}
+use denote.Ref.{now}
 use borrow.Author.Tests.{lt-ltb, le-ltb}
 use Rattle.decimal.proofs.Lex.{placed-at}
 use borrow.Author.Needs.{needs}
@@ -22,12 +23,12 @@ group-or-zero-requires c κs = search needs
 returns : tie.Need-returns
 returns c =
     let s = c .before in
-    sym (placed-at (s .args .n) (s .args .groups) (s .args .k) (s .pre .0) ∙ simp (lt-ltb _ _ (c .if1 .taken)))
+    sym (placed-at (s .args .n) (now (s .args .groups)) (s .args .k) (s .pre .0 .0) ∙ simp (lt-ltb _ _ (c .if1 .taken)))
 
 returns-2 : tie.Need-returns-2
 returns-2 c =
     let s = c .before .before in
-    c .group-or-zero .ensures ∙ sym (placed-at (s .args .n) (s .args .groups) (s .args .k) (s .pre .0) ∙ simp (le-ltb _ _ (c .before .if1 .left)))
+    c .group-or-zero .ensures ∙ sym (placed-at (s .args .n) (now (s .args .groups)) (s .args .k) (s .pre .0 .0) ∙ simp (le-ltb _ _ (c .before .if1 .left)))
 
 pub place-spec : {M : Type 1} → statement M
 place-spec =

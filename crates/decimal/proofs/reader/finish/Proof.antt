@@ -29,7 +29,7 @@ returns-2 : tie.Need-returns-2
 unfolding finished without groupsOf
 returns-2 c =
     c .decimal-of2 .ensures
-    ∙ sym (simp (c .before .before .before .if1 .left, ← c .before .before .leading .ensures .0, eq-eqb _ _ (c .before .if2 .taken)))
+    ∙ sym (simp (c .before .before .before .before .if1 .left, ← c .before .before .leading .ensures .0, eq-eqb _ _ (c .before .if2 .taken)))
 
 sub-decimal-of : tie.Need-sub-decimal-of
 sub-decimal-of c = search needs
@@ -46,11 +46,11 @@ decimal-of-requires-3 c κs = search needs
 returns-3 : tie.Need-returns-3
 unfolding finished without groupsOf
 returns-3 c =
-    let z = c .before .before .before in
-    let a = z .before .before .args in
+    let z = c .before .before .before .before in
+    let a = z .before .before .before .args in
     c .decimal-of3 .ensures
     ∙ ap (decimalOf (9 * ((a .intg + 8) / 9 - z .leading .result)) (a .frac) (a .negative)) (c .before .shifted .ensures)
-    ∙ sym (simp (z .before .if1 .left, ← z .leading .ensures .0, ne-eqb _ _ (c .before .before .if2 .left)))
+    ∙ sym (simp (z .before .before .if1 .left, ← z .leading .ensures .0, ne-eqb _ _ (c .before .before .before .if2 .left)))
 
 pub finish-spec : {M : Type 1} → statement M
 finish-spec =

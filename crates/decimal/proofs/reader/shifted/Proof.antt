@@ -4,6 +4,7 @@ use borrow.Author.Needs.{needs}
 use Prim.Native.Nat.{ℕ, _≤_, _<_, _-_, _+_}
 use mathlib.Core.Path.{_≡_, refl}
 use native.Mathlib.Omega.{arith}
+use denote.Ref.{now}
 use lib.ListN.{length, getD, length-set}
 use borrow.Author.Count.{below-none}
 use Rattle.groups.proofs.Tab.{fill-more, filled}
@@ -23,7 +24,7 @@ add-group-or-zero : tie.Need-add-group-or-zero Inv-loop μ-loop
 add-group-or-zero c = omega arith
 
 group-or-zero-requires : tie.Need-group-or-zero-requires Inv-loop μ-loop
-group-or-zero-requires c κs = tt
+group-or-zero-requires c κs = c .before .before .pre .1
 
 mul-out : tie.Need-mul-out Inv-loop μ-loop
 mul-out c = omega arith
@@ -44,7 +45,7 @@ loop-again c =
       search needs,
       (
         simp length-set (l .inv .1 .0),
-        fill-more (λ j. getD (s .args .groups) (j + s .args .z) 0) (l .out) (l .k) (c .group-or-zero .result) (search needs) (l .inv .1 .1)
+        fill-more (λ j. getD (now (s .args .groups)) (j + s .args .z) 0) (l .out) (l .k) (c .group-or-zero .result) (search needs) (l .inv .1 .1)
             (c .group-or-zero .ensures),
       ),
     )
@@ -54,7 +55,7 @@ returns c =
     let l = c .before .loop in
     let s = c .before .before in
     let e : l .k ≡ 9 = omega arith in
-    filled 9 (λ j. getD (s .args .groups) (j + s .args .z) 0) (l .out) (l .inv .1 .0) (λ j h. l .inv .1 .1 j (rw e h))
+    filled 9 (λ j. getD (now (s .args .groups)) (j + s .args .z) 0) (l .out) (l .inv .1 .0) (λ j h. l .inv .1 .1 j (rw e h))
 
 pub shifted-spec : {M : Type 1} → statement M
 shifted-spec =
