@@ -50,12 +50,13 @@ module _ (d : Decimal) (out : List ℕ) (e : length (d .groups) ≡ 9) (h : 12 �
       ∙ ap (λ (n : ℕ). laid (stored n (d .groups)) out) q
 
 module _ (xs : List ℕ) where
-  abbrev made : ℕ → ℕ → Decimal
-  made i f = record { intg = i; frac = f; sign = flag (getD xs 2 0); groups = tab 9 (λ k. getD xs (k + 3) 0) }
+  abbrev made : ℕ → ℕ → List ℕ → Decimal
+  made i f gs = record { intg = i; frac = f; sign = flag (getD xs 2 0); groups = gs }
 
-  pub decimal-is : {i f : ℕ} → i ≡ getD xs 0 0 → f ≡ getD xs 1 0 → made i f ≡ decimalIn xs
+  pub decimal-is : {i f : ℕ} {gs : List ℕ} → i ≡ getD xs 0 0 → f ≡ getD xs 1 0 → gs ≡ tab 9 (λ k. getD xs (k + 3) 0) → made i f gs ≡ decimalIn xs
   unfolding decimalIn
-  decimal-is {i} {f} p q = ap (λ (n : ℕ). made n f) p ∙ ap (λ (n : ℕ). made (getD xs 0 0) n) q
+  decimal-is {i} {f} {gs} p q r =
+      ap (λ (n : ℕ). made n f gs) p ∙ ap (λ (n : ℕ). made (getD xs 0 0) n gs) q ∙ ap (made (getD xs 0 0) (getD xs 1 0)) r
 
 -- ---- a decimal that is answered, or a refusal
 module _ (a : Answer) where

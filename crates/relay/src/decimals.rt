@@ -6,8 +6,9 @@ use decimal::Decimal;
 ghost use mathlib.Core.Path.{_≡_};
 ghost use mathlib.Core.Bool.{cond};
 ghost use mathlib.Core.List.{[], _∷_};
-ghost use Prim.Native.Nat.{_≤_};
-ghost use lib.ListN.{length};
+ghost use Prim.Native.Nat.{_+_, _≤_};
+ghost use lib.ListN.{length, getD};
+ghost use Rattle.groups.specs.Numbers.{tab};
 ghost use Rattle.groups.specs.Write.{told as countTold};
 ghost use Rattle.decimal.specs.Value.{told};
 ghost use Rattle.rows.specs.Layout.{laid, Relays};
@@ -19,6 +20,18 @@ fn wide(n: u32) -> usize
     n as usize
 }
 
+// The groups of a decimal of twelve numbers. A loop, since the compiler then leaves them where they are.
+fn groups_in(xs: &[u32]) -> [u32; 9]
+    requires { ⌜ 12 ≤ length (now xs) ⌝ }
+    ensures { λ r. ⌜ r ≡ tab 9 (λ k. getD (now (xs .entry)) (k + 3) 0) ⌝ }
+{
+    let mut groups = [0u32; 9];
+    for k in 0..9 {
+        groups[k] = xs[k + 3];
+    }
+    groups
+}
+
 // The decimal of twelve numbers.
 pub(crate) fn decimal_in(xs: &[u32]) -> Decimal
     requires { ⌜ 12 ≤ length (now xs) ⌝ }
@@ -28,17 +41,7 @@ pub(crate) fn decimal_in(xs: &[u32]) -> Decimal
         intg: wide(xs[0]),
         frac: wide(xs[1]),
         sign: xs[2] != 0,
-        groups: [
-            xs[3],
-            xs[4],
-            xs[5],
-            xs[6],
-            xs[7],
-            xs[8],
-            xs[9],
-            xs[10],
-            xs[11],
-        ],
+        groups: groups_in(xs),
     }
 }
 
