@@ -16,8 +16,8 @@ use Rattle.groups.proofs.Accept.{both-true, is-false, digits-ok}
 use Rattle.groups.specs.Write.{digitsOk}
 use Rattle.groups.proofs.Store.{join}
 use Rattle.groups.proofs.Tab.{all-true, all-each}
-use Rattle.numeral.specs.Print.{show, unpadded, firstDigits, wholeDigits, fractionText, textOf, areDigits}
-use Rattle.numeral.specs.Course.{DigitsTo}
+use Rattle.numeral.specs.Print.{show, unpadded, firstDigits, wholeDigits, fractionText, signText, textOf, areDigits}
+use Rattle.numeral.specs.Course.{DigitsTo, fractionLength}
 
 -- ---- zeros at the front
 zeros-le : (n : ℕ) (ds : List ℕ) → leadingIn n ds ≤ n
@@ -77,6 +77,17 @@ module _ (i : ℕ) (ds : List ℕ) {z : ℕ} (e : z ≡ leadingIn ((i - 1) % 9) 
       let k : i - z ≤ length (drop z ds) = simp length-drop (omega arith) in
       rw whole-is (length-map (take (i - z) (drop z ds)) show ∙ length-take-le (i - z) (drop z ds) k)
 
+-- the same by how many characters there are
+pub whole-at : (i : ℕ) (ds : List ℕ) {n : ℕ} → n ≡ length (map show (wholeDigits i ds)) → (i ≡ 0 → ⊥) → i ≤ length ds
+    → (n ≤ i) × (wholeDigits i ds ≡ take n (drop (i - n) ds))
+whole-at i ds {n} e h l =
+    let m = (i - 1) % 9 in
+    let z = leadingIn m ds in
+    let k = zeros-le m ds in
+    let q : n ≡ i - z = e ∙ whole-length i ds refl h l in
+    let r : z ≡ i - n = omega arith in
+    (omega arith, whole-is i ds refl h l ∙ rw (← q, ← r))
+
 -- ---- the fraction
 pub fraction-none : (i f : ℕ) (ds : List ℕ) → f ≡ 0 → fractionText i f ds ≡ []
 unfolding fractionText
@@ -91,6 +102,21 @@ fraction-length i f ds h l =
     let k : f ≤ length (drop i ds) = simp length-drop (omega arith) in
     let e = length-map (take f (drop i ds)) show ∙ length-take-le f (drop i ds) k in
     rw (fraction-is i f ds h) (omega arith)
+
+pub fraction-count : (i f : ℕ) (ds : List ℕ) → i + f ≤ length ds → length (fractionText i f ds) ≡ fractionLength f
+unfolding fractionText fractionLength
+fraction-count i zero ds l = refl
+fraction-count i (suc f) ds l =
+    let h : suc f ≡ 0 → ⊥ = λ e. omega arith in
+    let n : 1 + suc f ≡ suc f + 1 = omega arith in
+    fraction-length i (suc f) ds h l ∙ n ∙ sym (simp (ne-eqb (suc f) 0 h))
+
+-- ---- how long a text is, by how long its parts are
+pub text-count : (neg : Bool) (i f : ℕ) (ds : List ℕ)
+    → length (textOf neg i f ds) ≡ length (signText neg) + (length (map show (wholeDigits i ds)) + length (fractionText i f ds))
+text-count neg i f ds =
+    length-append (signText neg) (map show (wholeDigits i ds) ++ fractionText i f ds)
+    ∙ ap (λ (n : ℕ). length (signText neg) + n) (length-append (map show (wholeDigits i ds)) (fractionText i f ds))
 
 -- ---- a part written after the one before it: a second in the middle of an output, and a second and a third at its front
 pub after : (A B out : List ℕ) (at a b : ℕ) → length A ≡ a → at ≤ length out
@@ -134,6 +160,12 @@ unfolding areDigits digitsOk
 all-digits i f ds d =
     simp (le-leb _ _ (d .some), le-leb _ _ (d .most), le-leb _ _ (d .places), le-leb _ _ (d .there))
     (all-true (λ k. ltb (getD ds k 0) 10) (i + f) (λ k m. lt-ltb _ _ (d .low k m)))
+
+-- by a test of the digits alone
+pub tested : (i f : ℕ) (ds : List ℕ) (r : Bool) → 1 ≤ i + f → i + f ≤ 65 → f ≤ 30 → i + f ≤ length ds → (r ≡ true → DigitsTo (i + f) ds)
+    → (r ≡ false → DigitsTo (i + f) ds → ⊥) → r ≡ areDigits i f ds
+tested i f ds true a b c d y n = sym (all-digits i f ds (record { some = a; most = b; places = c; there = d; low = y refl }))
+tested i f ds false a b c d y n = sym (not-digits i f ds (λ h. n refl (h .low)))
 
 -- ---- what follows the digits does not matter
 first-le : (i : ℕ) → firstDigits i ≤ i

@@ -1,6 +1,6 @@
 -- What private functions do on the way; no public promise rests on it.
 -- Assumes nothing.
-use Prim.Native.Nat.{ℕ, _<_}
+use Prim.Native.Nat.{ℕ, _+_, _<_}
 use mathlib.Core.Bool.{Bool, false, cond}
 use mathlib.Core.List.{List, [], _∷_}
 use lib.Dec.{eqb}
@@ -24,3 +24,7 @@ fractionAt (x ∷ xs) = cond (both (eqb x 46) (eqb (run xs) (length xs))) (Place
 -- the first n are digits
 abbrev pub DigitsTo : ℕ → List ℕ → Type 0
 DigitsTo n ds = (k : ℕ) → k < n → getD ds k 0 < 10
+
+-- how many characters a fraction of f digits has
+unfoldable pub fractionLength : ℕ → ℕ
+fractionLength f = cond (eqb f 0) 0 (f + 1)

@@ -1,13 +1,14 @@
 // From digits to text.
 use groups::Counted;
 ghost use mathlib.Core.Path.{_≡_};
+ghost use mathlib.Core.Bool.{true, false};
 ghost use mathlib.Core.List.{_∷_, _++_, map};
 ghost use Prim.Native.Nat.{_+_, _<_, _≤_};
 ghost use lib.ListN.{length, take, drop};
 ghost use Rattle.groups.specs.Numbers.{leadingIn};
 ghost use Rattle.groups.specs.Write.{told};
 ghost use Rattle.numeral.specs.Print.{show, wholeDigits, fractionText, signText, textOf, areDigits, printTold, printLeaves};
-ghost use Rattle.numeral.specs.Course.{DigitsTo};
+ghost use Rattle.numeral.specs.Course.{DigitsTo, fractionLength};
 
 // How many of the first n digits are 0, up to the first that is not.
 fn padding(digits: &[u8], n: usize) -> usize
@@ -50,9 +51,38 @@ fn put_digits(out: &mut [u8], at: usize, digits: &[u8], from: usize, n: usize)
     }
 }
 
+// How many characters the integral digits have: the zeros that pad the first group have none, and without digits there is a 0.
+fn whole_len(intg: usize, digits: &[u8]) -> usize
+    requires { ⌜ (intg ≤ 65) × (intg ≤ length (now digits)) ⌝ }
+    ensures { λ r. ⌜ (r ≡ length (map show (wholeDigits intg (now (digits .entry))))) × (r ≤ intg + 1) ⌝ }
+{
+    if intg == 0 {
+        return 1;
+    }
+    let z = padding(digits, (intg - 1) % 9);
+    intg - z
+}
+
+// How many characters a fraction has, its point among them.
+fn fraction_len(frac: usize) -> usize
+    requires { ⌜ frac ≤ 30 ⌝ }
+    ensures { λ r. ⌜ (r ≡ fractionLength frac) × (r ≤ frac + 1) ⌝ }
+{
+    if frac == 0 { 0 } else { frac + 1 }
+}
+
+// How many characters a text has whose integral digits have so many.
+fn text_len(sign: bool, whole: usize, frac: usize) -> usize
+    requires { ⌜ (whole ≤ 66) × (frac ≤ 30) ⌝ }
+    ensures { λ r. ⌜ r ≡ length (signText sign) + (whole + fractionLength frac) ⌝ }
+{
+    let n = whole + fraction_len(frac);
+    if sign { 1 + n } else { n }
+}
+
 // Prints the sign, and returns the place after it.
 fn put_sign(out: &mut [u8], sign: bool) -> usize
-    requires { ⌜ 1 ≤ length (now out) ⌝ }
+    requires { ⌜ length (signText sign) ≤ length (now out) ⌝ }
     ensures { λ r. ⌜ (r ≡ length (signText sign)) × (r ≤ 1) ⌝ }
     ensures { λ r. ⌜ now (out .exit) ≡ signText sign ++ drop r (now (out .entry)) ⌝ }
 {
@@ -63,28 +93,24 @@ fn put_sign(out: &mut [u8], sign: bool) -> usize
     0
 }
 
-// Prints the integral digits from `at` on, and returns the place after them.
-fn put_whole(out: &mut [u8], at: usize, intg: usize, digits: &[u8]) -> usize
-    requires { ⌜ (intg ≤ 65) × (at + (intg + 1) ≤ length (now out)) ⌝ }
-    requires { ⌜ (intg ≤ length (now digits)) × DigitsTo intg (now digits) ⌝ }
-    ensures { λ r. ⌜ (r ≡ at + length (map show (wholeDigits intg (now (digits .entry))))) × (r ≤ at + (intg + 1)) ⌝ }
-    ensures { λ r. ⌜ now (out .exit) ≡ take at (now (out .entry)) ++ (map show (wholeDigits intg (now (digits .entry))) ++ drop r (now (out .entry))) ⌝ }
+// Prints the n characters of the integral digits from `at` on.
+fn put_whole(out: &mut [u8], at: usize, intg: usize, n: usize, digits: &[u8])
+    requires { ⌜ (intg ≤ 65) × (at + n ≤ length (now out)) ⌝ }
+    requires { ⌜ (n ≡ length (map show (wholeDigits intg (now digits)))) × ((intg ≤ length (now digits)) × DigitsTo intg (now digits)) ⌝ }
+    ensures { λ _. ⌜ now (out .exit) ≡ take at (now (out .entry)) ++ (map show (wholeDigits intg (now (digits .entry))) ++ drop (at + n) (now (out .entry))) ⌝ }
 {
     if intg == 0 {
         put_byte(out, at, 48);
-        return at + 1;
+        return;
     }
-    let z = padding(digits, (intg - 1) % 9);
-    let n = intg - z;
-    put_digits(out, at, digits, z, n);
-    at + n
+    put_digits(out, at, digits, intg - n, n);
 }
 
 // Prints the fraction from `at` on, and returns the place after it.
 fn put_fraction(out: &mut [u8], at: usize, intg: usize, frac: usize, digits: &[u8]) -> usize
-    requires { ⌜ (intg + frac ≤ 65) × (at + (frac + 1) ≤ length (now out)) ⌝ }
+    requires { ⌜ (intg + frac ≤ 65) × (at + length (fractionText intg frac (now digits)) ≤ length (now out)) ⌝ }
     requires { ⌜ (intg + frac ≤ length (now digits)) × DigitsTo (intg + frac) (now digits) ⌝ }
-    ensures { λ r. ⌜ (r ≡ at + length (fractionText intg frac (now (digits .entry)))) × (r ≤ at + (frac + 1)) ⌝ }
+    ensures { λ r. ⌜ (r ≡ at + length (fractionText intg frac (now (digits .entry)))) × (r ≤ length (now (out .entry))) ⌝ }
     ensures { λ r. ⌜ now (out .exit) ≡ take at (now (out .entry)) ++ (fractionText intg frac (now (digits .entry)) ++ drop r (now (out .entry))) ⌝ }
 {
     if frac == 0 {
@@ -95,26 +121,32 @@ fn put_fraction(out: &mut [u8], at: usize, intg: usize, frac: usize, digits: &[u
     at + 1 + frac
 }
 
-// Prints a decimal's text to the front, and returns the place after it.
-fn put_text(out: &mut [u8], sign: bool, intg: usize, frac: usize, digits: &[u8]) -> usize
-    requires { ⌜ (intg + frac ≤ 65) × (intg + frac + 3 ≤ length (now out)) ⌝ }
-    requires { ⌜ (intg + frac ≤ length (now digits)) × DigitsTo (intg + frac) (now digits) ⌝ }
-    ensures { λ r. ⌜ (r ≡ length (textOf sign intg frac (now (digits .entry)))) × (r ≤ length (now (out .entry))) ⌝ }
+// Prints a decimal's text, of which n characters are integral digits, to the front, and returns the place after it.
+fn put_text(out: &mut [u8], sign: bool, intg: usize, n: usize, frac: usize, digits: &[u8]) -> usize
+    requires { ⌜ (intg + frac ≤ 65) × (length (textOf sign intg frac (now digits)) ≤ length (now out)) ⌝ }
+    requires { ⌜ (n ≡ length (map show (wholeDigits intg (now digits)))) × ((intg + frac ≤ length (now digits)) × DigitsTo (intg + frac) (now digits)) ⌝ }
+    ensures { λ r. ⌜ r ≡ length (textOf sign intg frac (now (digits .entry))) ⌝ }
     ensures { λ r. ⌜ now (out .exit) ≡ textOf sign intg frac (now (digits .entry)) ++ drop r (now (out .entry)) ⌝ }
 {
     let a = put_sign(out, sign);
-    let b = put_whole(out, a, intg, digits);
-    put_fraction(out, b, intg, frac, digits)
+    put_whole(out, a, intg, n, digits);
+    put_fraction(out, a + n, intg, frac, digits)
 }
 
-// Copies the first n bytes.
-fn copy_front(out: &mut [u8], from: &[u8], n: usize)
-    requires { ⌜ (n ≤ length (now out)) × (n ≤ length (now from)) ⌝ }
-    ensures { λ _. ⌜ now (out .exit) ≡ take n (now (from .entry)) ++ drop n (now (out .entry)) ⌝ }
+// Whether the first n digits are below 10, by the largest of them.
+fn below_ten(digits: &[u8], n: usize) -> bool
+    requires { ⌜ n ≤ length (now digits) ⌝ }
+    ensures { λ r. ⌜ (r ≡ true → DigitsTo n (now (digits .entry))) ⌝ }
+    ensures { λ r. ⌜ (r ≡ false → DigitsTo n (now (digits .entry)) → ⊥) ⌝ }
 {
-    for i in 0..n {
-        out[i] = from[i];
+    let mut most = 0;
+    for k in 0..n {
+        let d = digits[k];
+        if most < d {
+            most = d;
+        }
     }
+    most < 10
 }
 
 fn digits_ok(intg: usize, frac: usize, digits: &[u8]) -> bool
@@ -136,12 +168,13 @@ fn digits_ok(intg: usize, frac: usize, digits: &[u8]) -> bool
     if digits.len() < n {
         return false;
     }
-    for k in 0..n {
-        if 10 <= digits[k] {
-            return false;
+    // All of a whole array are tested faster than some of them.
+    if digits.len() == 65 {
+        if below_ten(digits, 65) {
+            return true;
         }
     }
-    true
+    below_ten(digits, n)
 }
 
 // Prints a sign and digits to the front of the output, and counts the characters. A refusal changes nothing.
@@ -152,11 +185,9 @@ pub fn print(out: &mut [u8], sign: bool, intg: usize, frac: usize, digits: &[u8]
     if !digits_ok(intg, frac, digits) {
         return Counted::Refused(refusal::RECORD);
     }
-    let mut text = [0u8; 68];
-    let n = put_text(&mut text, sign, intg, frac, digits);
-    if out.len() < n {
+    let n = whole_len(intg, digits);
+    if out.len() < text_len(sign, n, frac) {
         return Counted::Refused(refusal::ROOM);
     }
-    copy_front(out, &text, n);
-    Counted::Bytes(n)
+    Counted::Bytes(put_text(out, sign, intg, n, frac, digits))
 }

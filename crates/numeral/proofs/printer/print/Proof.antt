@@ -1,21 +1,32 @@
--- The refusals in their order change nothing; past them the text is printed beside the output, and copied to its front.
+-- The refusals in their order change nothing; past them there is room for the text, which is printed to the front of the output.
 -- Assumes nothing.
 use borrow.Author.Needs.{needs}
 use denote.Ref.{now}
 use mathlib.Core.Path.{_≡_, sym, _∙_}
 use mathlib.Core.Bool.{true}
 use native.Mathlib.Omega.{arith}
-use lib.ListN.{drop, replicate}
-use lib.Seq.{take-at}
+use lib.ListN.{length}
 use borrow.Author.Tests.{not-true, not-false}
 use Rattle.groups.proofs.Room.{short, fits}
 use Rattle.numeral.specs.Print.{textOf, areDigits, printTold, printLeaves}
-use Rattle.numeral.proofs.Shown.{are-digits}
+use Rattle.numeral.proofs.Shown.{are-digits, text-count, fraction-count}
 use Rattle.numeral.proofs.printer.print.Statement.{statement}
 use Rattle.numeral.proofs.printer.print.Tie as tie
 
 printed : (c : tie.Else1) → let a = c .before .before .before .before .args in areDigits (a .intg) (a .frac) (now (a .digits)) ≡ true
 printed c = sym (c .before .digits-ok .ensures) ∙ not-false (c .before .digits-ok .result) (c .if1 .left)
+
+-- the length that was computed is that of the text
+counted : (c : tie.After-text-len)
+    → let a = c .before .before .before .before .before .before .args in length (textOf (a .sign) (a .intg) (a .frac) (now (a .digits))) ≡ c .text-len .result
+counted c =
+    let a = c .before .before .before .before .before .before .args in
+    let h = are-digits _ _ _ (printed (c .before .before)) in
+    let n = text-count (a .sign) (a .intg) (a .frac) (now (a .digits)) in
+    let f = fraction-count (a .intg) (a .frac) (now (a .digits)) (h .there) in
+    let w = c .before .whole-len .ensures .0 in
+    let t = c .text-len .ensures in
+    omega arith
 
 digits-ok-requires : tie.Need-digits-ok-requires
 digits-ok-requires c κs = search needs
@@ -26,28 +37,27 @@ returns c =
     let e = sym (c .before .digits-ok .ensures) ∙ not-true (c .before .digits-ok .result) (c .if1 .taken) in
     (sym (simp e), sym (simp e))
 
-slice-aggregate-put-text : tie.Need-slice-aggregate-put-text
-slice-aggregate-put-text c = search needs
+whole-len-requires : tie.Need-whole-len-requires
+whole-len-requires c κs = let h = are-digits _ _ _ (printed c) in (omega arith, omega arith)
 
-put-text-requires : tie.Need-put-text-requires
-put-text-requires c κs =
-    let h = are-digits _ _ _ (printed (c .before)) in
-    ((h .most, omega arith), (h .there, h .low))
+text-len-requires : tie.Need-text-len-requires
+text-len-requires c κs = let h = are-digits _ _ _ (printed (c .before)) in (omega arith, omega arith)
 
 returns-2 : tie.Need-returns-2
 unfolding printTold printLeaves
 returns-2 c =
-    let t = c .before .before in
+    let t = c .before in
     let e = t .before .before in
     let a = e .before .before .before .before .args in
-    let r = short (textOf (a .sign) (a .intg) (a .frac) (now (a .digits))) (now (a .out)) (sym (t .put-text .ensures .0 .0)) (c .if2 .taken) in
+    let r = short (textOf (a .sign) (a .intg) (a .frac) (now (a .digits))) (now (a .out)) (counted t) (c .if2 .taken) in
     (sym (simp (printed e, r .0)), sym (simp (printed e, r .1)))
 
-slice-aggregate-copy-front : tie.Need-slice-aggregate-copy-front
-slice-aggregate-copy-front c = search needs
-
-copy-front-requires : tie.Need-copy-front-requires
-copy-front-requires c κs = search needs
+put-text-requires : tie.Need-put-text-requires
+put-text-requires c κs =
+    let t = c .before .before in
+    let h = are-digits _ _ _ (printed (t .before .before)) in
+    let n = counted t in
+    ((h .most, omega arith), (t .before .whole-len .ensures .0, (h .there, h .low)))
 
 same-length : tie.Need-same-length
 same-length c = search needs
@@ -55,17 +65,15 @@ same-length c = search needs
 returns-3 : tie.Need-returns-3
 unfolding printTold printLeaves
 returns-3 c =
-    let l = c .before .before .before .before .before in
-    let t = l .before .before in
+    let p = c .before .before .put-text in
+    let l = c .before .before .before .before in
+    let t = l .before in
     let e = t .before .before in
     let a = e .before .before .before .before .args in
     let T = textOf (a .sign) (a .intg) (a .frac) (now (a .digits)) in
-    let n = t .put-text .result in
-    let r = fits T (now (a .out)) (sym (t .put-text .ensures .0 .0)) (l .if2 .left) in (
-      sym (simp (printed e, r .0)),
-      c .before .before .copy-front .ensures
-          ∙ rw (t .put-text .ensures .1, take-at T (drop n (replicate 68 0)) n (sym (t .put-text .ensures .0 .0))) (sym (simp (printed e, r .1))),
-    )
+    let n = counted t in
+    let r = fits T (now (a .out)) (sym (p .ensures .0)) (omega arith) in
+    (sym (simp (printed e, r .0)), p .ensures .1 ∙ sym (simp (printed e, r .1)))
 
 pub print-spec : {M : Type 1} → statement M
 print-spec =
@@ -73,10 +81,9 @@ print-spec =
     (tie.spec
     digits-ok-requires
     returns
-    slice-aggregate-put-text
-    put-text-requires
+    whole-len-requires
+    text-len-requires
     returns-2
-    slice-aggregate-copy-front
-    copy-front-requires
+    put-text-requires
     same-length
     returns-3)

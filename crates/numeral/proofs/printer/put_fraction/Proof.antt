@@ -2,12 +2,13 @@
 -- Assumes what the contract requires, and nothing else.
 use borrow.Author.Needs.{needs}
 use denote.Ref.{now}
-use mathlib.Core.Path.{refl, sym, _∙_}
+use mathlib.Core.Path.{_≡_, refl, sym, _∙_}
+use Prim.Native.Nat.{_+_}
 use mathlib.Core.List.{[], _∷_, map}
 use native.Mathlib.Nat.{add-zero}
 use native.Mathlib.Omega.{arith}
-use lib.ListN.{take, drop, take-append-drop}
-use Rattle.numeral.specs.Print.{show}
+use lib.ListN.{length, take, drop, take-append-drop}
+use Rattle.numeral.specs.Print.{show, fractionText}
 use Rattle.numeral.proofs.Shown.{fraction-none, fraction-is, fraction-length, after}
 use Rattle.numeral.proofs.printer.put_fraction.Statement.{statement}
 use Rattle.numeral.proofs.printer.put_fraction.Tie as tie
@@ -18,20 +19,29 @@ returns c =
     rw (fraction-none (a .intg) (a .frac) (now (a .digits)) (c .if1 .taken))
     ((sym (add-zero (a .at)), omega arith), sym (take-append-drop (a .at) (now (a .out))))
 
+-- a point and the digits
+count : (c : tie.Else1) → let a = c .before .before .before .args in length (fractionText (a .intg) (a .frac) (now (a .digits))) ≡ 1 + a .frac
+count c =
+    let s = c .before .before .before in
+    fraction-length (s .args .intg) (s .args .frac) (now (s .args .digits)) (c .if1 .left) (s .pre .1 .0)
+
 put-byte-requires : tie.Need-put-byte-requires
-put-byte-requires c κs = search needs
+put-byte-requires c κs = let n = count (c .before) in omega arith
 
 add-put-digits : tie.Need-add-put-digits
-add-put-digits c = search needs
+add-put-digits c = let n = count (c .before .before .before .before .before) in omega arith
 
 put-digits-requires : tie.Need-put-digits-requires
-put-digits-requires c κs = search needs
+put-digits-requires c κs =
+    let e = c .before .before .before .before .before in
+    let n = count e in
+    (omega arith, e .before .before .before .pre .1 .1)
 
 add-result : tie.Need-add-result
-add-result c = search needs
+add-result c = let n = count (c .before .before .before .before .before .before .before .before) in omega arith
 
 add-result-2 : tie.Need-add-result-2
-add-result-2 c = search needs
+add-result-2 c = let n = count (c .before .before .before .before .before .before .before .before) in omega arith
 
 same-length : tie.Need-same-length
 same-length c = search needs
@@ -45,7 +55,7 @@ returns-2 c =
     let i = a .intg in
     let f = a .frac in
     let ds = now (a .digits) in
-    let n = fraction-length i f ds (t .if1 .left) (s .pre .1 .0) in
+    let n = count t in
     let e = after (46 ∷ []) (map show (take f (drop i ds))) (now (a .out)) (a .at) 1 f refl (omega arith) in
     (omega arith, c .before .before .put-digits .ensures ∙ rw (b .put-byte .ensures, fraction-is i f ds (t .if1 .left)) e)
 

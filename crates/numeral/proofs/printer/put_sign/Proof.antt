@@ -7,7 +7,7 @@ use Rattle.numeral.proofs.printer.put_sign.Statement.{statement}
 use Rattle.numeral.proofs.printer.put_sign.Tie as tie
 
 put-byte-requires : tie.Need-put-byte-requires
-put-byte-requires c κs = search needs
+put-byte-requires c κs = rw (c .before .if1 .taken) at (c .before .before .before .pre)
 
 same-length : tie.Need-same-length
 same-length c = search needs
