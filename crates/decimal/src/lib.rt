@@ -110,12 +110,7 @@ impl Decimal {
         ensures { λ _. ⌜ now (out .exit) ≡ printLeaves self (now (out .entry)) ⌝ }
     {
         let gs = self.groups;
-        let mut digits = [0u8; 65];
-        let w = groups::write(&mut digits, groups::Form::Digits, self.intg, self.frac, gs);
-        let Counted::Bytes(_) = w else {
-            return w;
-        };
-        numeral::print(out, self.sign, self.intg, self.frac, &digits)
+        printing::print(out, self.sign, self.intg, self.frac, gs)
     }
 
     // The order of the two values.

@@ -8,7 +8,7 @@ use native.Mathlib.Nat.{le-of-suc-le-suc, not-suc-le-zero}
 use native.Mathlib.Omega.{arith}
 use lib.Dec.{eqb, leb, ltb}
 use lib.ListN.{length, getD, take, drop, length-append, length-drop, length-map, take-append-drop}
-use lib.Seq.{take-append-le, drop-append-le, drop-at, length-take-le, take-add, take-take}
+use lib.Seq.{drop-append-le, drop-at, length-take-le, take-add, take-take}
 use borrow.Author.Tests.{eq-eqb, ne-eqb, le-leb, lt-ltb, leb-true, ltb-true}
 use Rattle.groups.specs.Numbers.{both, all, leadingIn}
 use Rattle.groups.specs.Layout.{side, groupsOf}
@@ -166,21 +166,3 @@ pub tested : (i f : ℕ) (ds : List ℕ) (r : Bool) → 1 ≤ i + f → i + f �
     → (r ≡ false → DigitsTo (i + f) ds → ⊥) → r ≡ areDigits i f ds
 tested i f ds true a b c d y n = sym (all-digits i f ds (record { some = a; most = b; places = c; there = d; low = y refl }))
 tested i f ds false a b c d y n = sym (not-digits i f ds (λ h. n refl (h .low)))
-
--- ---- what follows the digits does not matter
-first-le : (i : ℕ) → firstDigits i ≤ i
-unfolding side
-first-le i = omega arith
-
-pub text-front : (neg : Bool) (i f : ℕ) (ds rest : List ℕ) → i + f ≤ length ds → textOf neg i f (ds ++ rest) ≡ textOf neg i f ds
-unfolding wholeDigits fractionText
-text-front neg i f ds rest l =
-    let h = first-le i in
-    let m : firstDigits i ≤ length ds = omega arith in
-    let n : i ≤ length ds = omega arith in
-    rw (
-      take-append-le (firstDigits i) ds rest m,
-      take-append-le i ds rest n,
-      drop-append-le i ds rest n,
-      take-append-le f (drop i ds) rest (simp length-drop (omega arith)),
-    )

@@ -9,10 +9,11 @@ use borrow.Author.Needs.{needs}
 use Rattle.groups.specs.Numbers.{both}
 use Rattle.groups.specs.Layout.{groupsOf}
 use Rattle.groups.proofs.Accept.{well-digits}
+use Rattle.printing.proofs.Pieces.{well-below}
 use Rattle.decimal.specs.Value.{magnitude, value}
 use Rattle.decimal.specs.Course.{NineGroups}
 use Rattle.decimal.specs.declared.Decimal.{Decimal}
-use Rattle.decimal.proofs.Values.{well-below, below-zero-is, both-neg, neg-pos, pos-neg, both-pos}
+use Rattle.decimal.proofs.Values.{below-zero-is, both-neg, neg-pos, pos-neg, both-pos}
 use Rattle.decimal.proofs.order.compare_values.Statement.{statement}
 use Rattle.decimal.proofs.order.compare_values.Tie as tie
 
