@@ -1,18 +1,19 @@
 -- What the definitions of a text say of the characters at a place: zeros at the front, the sign, digits, and what follows them.
 -- Assumes nothing.
-use Prim.Native.Nat.{ℕ, suc, _+_, _-_, _≤_, _<_}
-use mathlib.Core.Path.{_≡_, refl, sym, _∙_, subst}
+use Prim.Native.Nat.{ℕ, zero, suc, _+_, _-_, _≤_, _<_}
+use mathlib.Core.Path.{_≡_, refl, sym, ap, _∙_, subst}
 use mathlib.Core.Bool.{Bool, true, false, cond}
 use mathlib.Core.List.{List, [], _∷_}
 use native.Mathlib.Numerals.{add-one}
 use native.Mathlib.Omega.{arith}
-use lib.Dec.{T, eqb}
+use lib.Dec.{T, eqb, leb}
 use lib.ListN.{length, getD, drop, length-drop, drop-of-length-le}
-use lib.Seq.{drop-cons}
-use borrow.Author.Tests.{eq-eqb, ne-eqb}
+use lib.Seq.{drop-cons, drop-drop, getD-drop}
+use borrow.Author.Tests.{eq-eqb, ne-eqb, eqb-true, leb-true}
 use Rattle.groups.specs.Numbers.{both}
+use Rattle.groups.proofs.Accept.{both-true}
 use Rattle.numeral.specs.Read.{strip, unsigned, isDigit, run, pointed}
-use Rattle.numeral.specs.Course.{zeroZero, fractionAt}
+use Rattle.numeral.specs.Course.{zeroZero, fractionAt, DigitsFrom}
 use Rattle.numeral.specs.declared.reader.Fraction.the-variants.{Places, Other}
 
 -- ---- zeros at the front
@@ -83,7 +84,25 @@ run-le (x ∷ xs) = go (isDigit x) (run-le xs)
     go true h = omega arith
     go false h = omega arith
 
+run-at : (xs : List ℕ) (k : ℕ) → k < run xs → 48 ≤ getD xs k 0
+unfolding run
+run-at [] k h = absurd (omega arith)
+run-at (x ∷ xs) k h = go (isDigit x) refl (run-at xs) k h
+  where
+    go : (b : Bool) → isDigit x ≡ b → ((j : ℕ) → j < run xs → 48 ≤ getD xs j 0) → (k : ℕ) → k < cond b (suc (run xs)) 0 → 48 ≤ getD (x ∷ xs) k 0
+    go true e r zero h = leb-true 48 x (both-true (leb 48 x) (leb x 57) e .0)
+    go true e r (suc k) h = r k (omega arith)
+    go false e r k h = absurd (omega arith)
+
+pub run-digits : (t : List ℕ) (from : ℕ) {n : ℕ} → n ≡ run (drop from t) → DigitsFrom from n t
+run-digits t from e k h = rw getD-drop at (run-at (drop from t) k (rw (← e) h))
+
 -- ---- what follows the digits
+point-run : (xs : List ℕ) → pointed xs ≡ true → run (drop 1 xs) ≡ length (drop 1 xs)
+unfolding pointed run
+point-run [] e = refl
+point-run (x ∷ xs) e = eqb-true (run xs) (length xs) (both-true (eqb x 46) (eqb (run xs) (length xs)) e .1)
+
 pub no-fraction : (xs : List ℕ) → fractionAt xs ≡ Other → pointed xs ≡ false
 unfolding fractionAt pointed
 no-fraction [] e = cc
@@ -115,3 +134,8 @@ module _ (t : List ℕ) (at : ℕ) where
       → let left = length t - (at + 1) in fractionAt (drop at t) ≡ cond (eqb (run (drop (at + 1) t)) left) (Places left) Other
   unfolding fractionAt
   fraction-point h e = rw (drop-cons t at 0 h) (simp (eq-eqb _ _ e, length-drop, add-one))
+
+pub fraction-digits : (t : List ℕ) (at f : ℕ) → fractionAt (drop at t) ≡ Places f → DigitsFrom (at + 1) f t
+fraction-digits t at f e =
+    let a = a-fraction (drop at t) f e in
+    run-digits t (at + 1) (sym (a .1) ∙ sym (point-run (drop at t) (a .0)) ∙ ap run (drop-drop 1 at t))

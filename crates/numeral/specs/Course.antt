@@ -1,6 +1,6 @@
 -- What private functions do on the way; no public promise rests on it.
 -- Assumes nothing.
-use Prim.Native.Nat.{ℕ, _+_, _<_}
+use Prim.Native.Nat.{ℕ, _+_, _≤_, _<_}
 use mathlib.Core.Bool.{Bool, false, cond}
 use mathlib.Core.List.{List, [], _∷_}
 use lib.Dec.{eqb}
@@ -24,6 +24,10 @@ fractionAt (x ∷ xs) = cond (both (eqb x 46) (eqb (run xs) (length xs))) (Place
 -- the first n are digits
 abbrev pub DigitsTo : ℕ → List ℕ → Type 0
 DigitsTo n ds = (k : ℕ) → k < n → getD ds k 0 < 10
+
+-- no character of n, from a place on, is below '0'
+abbrev pub DigitsFrom : ℕ → ℕ → List ℕ → Type 0
+DigitsFrom from n t = (k : ℕ) → k < n → 48 ≤ getD t (from + k) 0
 
 -- how many characters a fraction of f digits has
 unfoldable pub fractionLength : ℕ → ℕ

@@ -5,7 +5,7 @@ ghost use mathlib.Core.List.{_++_, map};
 ghost use Prim.Native.Nat.{_+_, _<_, _≤_};
 ghost use lib.ListN.{length, take, drop};
 ghost use Rattle.numeral.specs.Read.{isDigit, strip, minus, unsigned, run, digitOf, digitsIn, padded, noNumeral, readUnsigned, readText};
-ghost use Rattle.numeral.specs.Course.{zeroZero, fractionAt};
+ghost use Rattle.numeral.specs.Course.{zeroZero, fractionAt, DigitsFrom};
 
 fn is_digit(c: u8) -> bool
     ensures { λ r. ⌜ r ≡ isDigit c ⌝ }
@@ -107,6 +107,7 @@ fn fraction_at(text: &[u8], at: usize) -> Fraction
 // Copies n digits of the text, from a place on, to `at` and what follows it.
 fn take_digits(out: &mut [u8], at: usize, text: &[u8], from: usize, n: usize)
     requires { ⌜ (at + n ≤ length (now out)) × (from + n ≤ length (now text)) ⌝ }
+    requires { ⌜ DigitsFrom from n (now text) ⌝ }
     ensures { λ _. ⌜ now (out .exit) ≡ take at (now (out .entry)) ++ (map digitOf (take n (drop from (now (text .entry)))) ++ drop (at + n) (now (out .entry))) ⌝ }
 {
     for i in 0..n {
@@ -115,9 +116,10 @@ fn take_digits(out: &mut [u8], at: usize, text: &[u8], from: usize, n: usize)
 }
 
 fn digit_of(c: u8) -> u8
+    requires { ⌜ 48 ≤ c ⌝ }
     ensures { λ r. ⌜ r ≡ digitOf c ⌝ }
 {
-    if c < 48 { 0 } else { c - 48 }
+    c - 48
 }
 
 // The digits from a place on, and those of a fraction one place after them.

@@ -3,6 +3,9 @@
 use mathlib.Core.Path.{_∙_}
 use native.Mathlib.Omega.{arith}
 use borrow.Author.Needs.{needs}
+use denote.Ref.{now}
+use Prim.Native.Nat.{_+_}
+use Rattle.numeral.proofs.Scans.{run-digits, fraction-digits}
 use Rattle.numeral.proofs.Parts.{fraction-size, whole-copied, fraction-copied}
 use Rattle.numeral.proofs.reader.digits_in.Statement.{statement}
 use Rattle.numeral.proofs.reader.digits_in.Tie as tie
@@ -11,7 +14,7 @@ slice-aggregate-take-digits : tie.Need-slice-aggregate-take-digits
 slice-aggregate-take-digits c = search needs
 
 take-digits-requires : tie.Need-take-digits-requires
-take-digits-requires c κs = search needs
+take-digits-requires c κs = let s = c .before .before in (search needs, run-digits (now (s .args .text)) (s .args .from) (s .pre .1 .0 .0))
 
 slice-aggregate-take-digits-2 : tie.Need-slice-aggregate-take-digits-2
 slice-aggregate-take-digits-2 c = search needs
@@ -27,7 +30,7 @@ take-digits-requires-2 c κs =
     let s = c .before .before .before .before .before .before in
     let k = c .before .before .before .take-digits .kept .0 in
     let f = fraction-size _ _ _ (s .pre .1 .0 .0) _ (s .pre .1 .1) in
-    (omega arith, omega arith)
+    ((omega arith, omega arith), fraction-digits (now (s .args .text)) (s .args .from + s .args .intg) (s .args .frac) (s .pre .1 .1))
 
 returns : tie.Need-returns
 returns c =

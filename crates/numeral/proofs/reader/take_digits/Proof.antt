@@ -29,7 +29,7 @@ shared-slice-read-digit-of : tie.Need-shared-slice-read-digit-of Inv-loop μ-loo
 shared-slice-read-digit-of c = omega arith
 
 digit-of-requires : tie.Need-digit-of-requires Inv-loop μ-loop
-digit-of-requires c κs = search needs
+digit-of-requires c κs = c .before .before .before .before .before .pre .1 (c .before .before .loop .i) (omega arith)
 
 add-out : tie.Need-add-out Inv-loop μ-loop
 add-out c = omega arith
