@@ -1,4 +1,4 @@
 mod Doubles
-mod Cases
+pub mod Cases
 pub mod Placed
 pub mod Exact

@@ -1,0 +1,3 @@
+pub mod Cases
+mod Good
+pub mod Laws

@@ -1,0 +1,278 @@
+// What an event shows of the value in an entry: its type code, its bytes, and a count or a column type. The value itself is not made, so that a walk
+// costs no more than it shows.
+use codes::ColumnOf;
+use codes::ColumnType;
+use codes::JsonbType;
+use codes::LiteralOf;
+use codes::LiteralType;
+use codes::TypeOf;
+use layout::Kind;
+use raw::Length;
+use value::Span;
+ghost use mathlib.Core.Path.{_≡_};
+ghost use mathlib.Core.Bool.{false};
+ghost use Prim.Native.Nat.{_+_, _<_, _≤_};
+ghost use lib.ListN.{length, getD, take, drop};
+ghost use Rattle.raw.specs.Numbers.{value};
+ghost use Rattle.codes.specs.Types.{typeOf};
+ghost use Rattle.layout.specs.Layout.{offsetSize, offsetAt};
+ghost use Rattle.content.specs.Reading.{contentAt, literalAt, opaqueAt, partAt, headerAt, kind};
+ghost use Rattle.content.specs.Course.{Within};
+ghost use Rattle.entry.specs.Entries.{typedEntry};
+ghost use Rattle.events.specs.Events.{bytesOf, span};
+ghost use Rattle.sight.specs.Sights.{sight, refusedSight, sightOf, bounds, startBy, sightAt};
+ghost use Rattle.sight.specs.Course.{Inside, numberSight, partSight, headerSight, placeBy, entrySight};
+
+// What an event shows of a value, or a refusal with zeros. The refusal is 0 where there is none.
+pub struct Sight {
+    pub refusal: u8,
+    pub code: u32,
+    pub part: Span,
+    pub extra: u32,
+}
+
+// Where a value stands and how far it may reach, or a refusal with zeros.
+struct Place {
+    refusal: u8,
+    at: usize,
+    end: usize,
+}
+
+fn wide(x: u8) -> u32
+    ensures { λ r. ⌜ (r ≡ x) × (r < 256) ⌝ }
+{
+    x as u32
+}
+
+// Two and four bytes that are all there, lowest first. The compiler makes one load of each.
+fn pair_at(doc: &[u8], at: usize) -> u32
+    requires { ⌜ at + 2 ≤ length (now doc) ⌝ }
+    ensures { λ r. ⌜ (r ≡ value (take 2 (drop at (now (doc .entry))))) × (r < 65536) ⌝ }
+{
+    wide(doc[at]) + 256 * wide(doc[at + 1])
+}
+
+fn four_at(doc: &[u8], at: usize) -> u32
+    requires { ⌜ at + 4 ≤ length (now doc) ⌝ }
+    ensures { λ r. ⌜ r ≡ value (take 4 (drop at (now (doc .entry)))) ⌝ }
+{
+    pair_at(doc, at) + 65536 * pair_at(doc, at + 2)
+}
+
+// An offset, a count or a size whose bytes are all there.
+fn offset_at(doc: &[u8], large: bool, at: usize, end: usize) -> u32
+    requires { ⌜ Within (length (now doc)) (at + offsetSize (kind false large)) end ⌝ }
+    ensures { λ r. ⌜ r ≡ offsetAt (now (doc .entry)) (kind false large) at end ⌝ }
+{
+    if large {
+        return four_at(doc, at);
+    }
+    pair_at(doc, at)
+}
+
+fn refused(n: u8) -> Sight
+    ensures { λ r. ⌜ r ≡ refusedSight n ⌝ }
+{
+    Sight {
+        refusal: n,
+        code: 0,
+        part: Span { start: 0, len: 0 },
+        extra: 0,
+    }
+}
+
+fn shown(code: u32, start: usize, len: u32, extra: u32) -> Sight
+    requires { ⌜ start ≤ 16777216 ⌝ }
+    ensures { λ r. ⌜ r ≡ sight code (span start len) extra ⌝ }
+{
+    Sight {
+        refusal: 0,
+        code,
+        part: Span {
+            start: start as u32,
+            len,
+        },
+        extra,
+    }
+}
+
+// A literal's or a number's w bytes.
+fn sight_number(t: JsonbType, w: u32, at: usize, end: usize) -> Sight
+    requires { ⌜ (w ≡ bytesOf t) × ((at ≤ end) × (end ≤ 16777216)) ⌝ }
+    ensures { λ r. ⌜ r ≡ numberSight t at end ⌝ }
+{
+    if end - at < w as usize {
+        return refused(refusal::CUT);
+    }
+    shown(t.code() as u32, at, w, 0)
+}
+
+fn sight_literal(doc: &[u8], at: usize, end: usize) -> Sight
+    requires { ⌜ Inside (length (now doc)) at end ⌝ }
+    ensures { λ r. ⌜ r ≡ sightOf (literalAt (now (doc .entry)) at end) at ⌝ }
+{
+    if end <= at {
+        return refused(refusal::CUT);
+    }
+    match LiteralType::of(doc[at]) {
+        LiteralOf::Known(_) => shown(4, at, 1, 0),
+        LiteralOf::Refused(n) => refused(n),
+    }
+}
+
+// The bytes after a length field.
+fn sight_part(doc: &[u8], code: u32, extra: u32, at: usize, end: usize) -> Sight
+    requires { ⌜ Within (length (now doc)) at end ⌝ }
+    ensures { λ r. ⌜ r ≡ partSight code extra (partAt (now (doc .entry)) at end) ⌝ }
+{
+    match raw::length_at(doc, at, end) {
+        Length::Field { length, next } => {
+            if end - next < length as usize {
+                return refused(refusal::CUT);
+            }
+            shown(code, next, length, extra)
+        }
+        Length::Refused(n) => refused(n),
+    }
+}
+
+fn sight_opaque(doc: &[u8], at: usize, end: usize) -> Sight
+    requires { ⌜ Inside (length (now doc)) at end ⌝ }
+    ensures { λ r. ⌜ r ≡ sightOf (opaqueAt (now (doc .entry)) at end) at ⌝ }
+{
+    if end <= at {
+        return refused(refusal::CUT);
+    }
+    match ColumnType::of(doc[at]) {
+        ColumnOf::Known(t) => sight_part(doc, 15, t.code() as u32, at + 1, end),
+        ColumnOf::Refused(n) => refused(n),
+    }
+}
+
+// A container's header: its size and its count.
+fn sight_header(doc: &[u8], object: bool, large: bool, code: u32, at: usize, end: usize) -> Sight
+    requires { ⌜ Within (length (now doc)) at end ⌝ }
+    ensures { λ r. ⌜ r ≡ headerSight code at (headerAt (now (doc .entry)) (kind object large) at end) ⌝ }
+{
+    let k = Kind { object, large };
+    let left = end - at;
+    let w = k.offset_size();
+    if left < 2 * w {
+        return refused(refusal::CUT);
+    }
+    let count = offset_at(doc, large, at, end);
+    let size = offset_at(doc, large, at + w, end);
+    let whole = size as usize;
+    if left < whole {
+        return refused(refusal::SIZE);
+    }
+    if whole < k.header_size(count) {
+        return refused(refusal::SIZE);
+    }
+    shown(code, at, size, count)
+}
+
+// The content of a type at a place.
+fn sight_content(doc: &[u8], t: JsonbType, at: usize, end: usize) -> Sight
+    requires { ⌜ Inside (length (now doc)) at end ⌝ }
+    ensures { λ r. ⌜ r ≡ sightOf (contentAt (now (doc .entry)) t at end) at ⌝ }
+{
+    match t {
+        JsonbType::SmallObject => sight_header(doc, true, false, 0, at, end),
+        JsonbType::LargeObject => sight_header(doc, true, true, 1, at, end),
+        JsonbType::SmallArray => sight_header(doc, false, false, 2, at, end),
+        JsonbType::LargeArray => sight_header(doc, false, true, 3, at, end),
+        JsonbType::Literal => sight_literal(doc, at, end),
+        JsonbType::Int16 => sight_number(t, 2, at, end),
+        JsonbType::Uint16 => sight_number(t, 2, at, end),
+        JsonbType::Int32 => sight_number(t, 4, at, end),
+        JsonbType::Uint32 => sight_number(t, 4, at, end),
+        JsonbType::Int64 => sight_number(t, 8, at, end),
+        JsonbType::Uint64 => sight_number(t, 8, at, end),
+        JsonbType::Double => sight_number(t, 8, at, end),
+        JsonbType::String => sight_part(doc, 12, 0, at, end),
+        JsonbType::Opaque => sight_opaque(doc, at, end),
+    }
+}
+
+// Where the value of a type stands whose entry has its body there: in the entry, or at its offset.
+fn place_of(doc: &[u8], large: bool, start: u32, size: u32, t: JsonbType, body: usize) -> Place
+    requires { ⌜ Within (length (now doc)) (body + offsetSize (kind false large)) (start + size) ⌝ }
+    ensures { λ r. ⌜ r ≡ placeBy (now (doc .entry)) (bounds large start size) t body ⌝ }
+{
+    let k = Kind {
+        object: false,
+        large,
+    };
+    let own = body + k.offset_size();
+    if entry::is_inlined(t, large) {
+        return Place {
+            refusal: 0,
+            at: body,
+            end: own,
+        };
+    }
+    let end = start as usize + size as usize;
+    let at = start as usize + offset_at(doc, large, body, end) as usize;
+    if at < own {
+        return Place {
+            refusal: refusal::POINTER,
+            at: 0,
+            end: 0,
+        };
+    }
+    if end < at {
+        return Place {
+            refusal: refusal::POINTER,
+            at: 0,
+            end: 0,
+        };
+    }
+    Place {
+        refusal: 0,
+        at,
+        end,
+    }
+}
+
+// The value of a type whose entry has its body there.
+fn sight_typed(doc: &[u8], large: bool, start: u32, size: u32, t: JsonbType, body: usize) -> Sight
+    requires { ⌜ (1 ≤ body) × Within (length (now doc)) (body + offsetSize (kind false large)) (start + size) ⌝ }
+    ensures { λ r. ⌜ r ≡ sightOf (typedEntry (now (doc .entry)) (bounds large start size) t body) (startBy (now (doc .entry)) (bounds large start size) body t) ⌝ }
+{
+    let p = place_of(doc, large, start, size, t, body);
+    if p.refusal != 0 {
+        return refused(p.refusal);
+    }
+    sight_content(doc, t, p.at, p.end)
+}
+
+// The value of the entry at a place.
+fn sight_entry(doc: &[u8], large: bool, start: u32, size: u32, at: usize) -> Sight
+    requires { ⌜ Within (length (now doc)) (at + 1 + offsetSize (kind false large)) (start + size) ⌝ }
+    ensures { λ r. ⌜ r ≡ entrySight (now (doc .entry)) (bounds large start size) at (typeOf (getD (now (doc .entry)) at 0)) ⌝ }
+{
+    match JsonbType::of(doc[at]) {
+        TypeOf::Known(t) => sight_typed(doc, large, start, size, t, at + 1),
+        TypeOf::Refused(n) => refused(n),
+    }
+}
+
+// What the value entry at a place shows, of a container with these bounds.
+pub fn sight_at(doc: &[u8], large: bool, start: u32, size: u32, place: usize) -> Sight
+    ensures { λ r. ⌜ r ≡ sightAt (now (doc .entry)) large start size place ⌝ }
+{
+    let end = start as usize + size as usize;
+    if end < place {
+        return refused(content::place_fault(doc, place, end));
+    }
+    let k = Kind {
+        object: false,
+        large,
+    };
+    let fault = content::place_fault(doc, place + 1 + k.offset_size(), end);
+    if fault != 0 {
+        return refused(fault);
+    }
+    sight_entry(doc, large, start, size, place)
+}
