@@ -1,12 +1,13 @@
 -- Cases of the definitions by the tests that lead to them, with what callees gave as variables of their own.
 -- Assumes nothing.
-use mathlib.Core.Path.{_≡_, refl, sym, ap, _∙_}
+use mathlib.Core.Path.{_≡_, refl, sym, ap, subst, _∙_}
 use mathlib.Core.Bool.{Bool, true, false, cond}
 use mathlib.Core.List.{List}
-use Prim.Native.Nat.{ℕ}
+use Prim.Native.Nat.{ℕ, _+_, _*_, _/_, _%_, _<_, _≤_}
+use lib.Dec.{ltb, eqb}
 use native.Mathlib.Omega.{arith}
-use lib.ListN.{length}
-use borrow.Author.Tests.{le-ltb, eq-eqb, ne-eqb}
+use lib.ListN.{length, getD, take, drop, length-set}
+use borrow.Author.Tests.{le-ltb, lt-ltb, ltb-false, eqb-true, eqb-false, eq-eqb, ne-eqb}
 use Rattle.layout.proofs.Cond.{yes, no}
 use Rattle.utf8.specs.Course.{run}
 use Rattle.value.specs.declared.Span.{Span}
@@ -16,18 +17,39 @@ use Rattle.content.specs.declared.Read.{Read}
 use Rattle.content.specs.declared.Read.the-variants as read
 use Rattle.content.specs.declared.Part.{Part}
 use Rattle.content.specs.declared.Part.the-variants as part
-use Rattle.entry.specs.Entries.{placeAt, keyPlaceAt, entryRead, keyRead, valueStart}
+use Rattle.raw.specs.Numbers.{value as valueOf, le}
+use Rattle.raw.proofs.Bounds.{le-inside}
+use Rattle.layout.specs.Layout.{offsetSize, keyEntry, offsetAt}
+use Rattle.layout.specs.declared.Kind.{Kind}
+use Rattle.content.specs.Reading.{kind, view}
+use Rattle.layout.proofs.Inside.{key-inside}
+use Rattle.content.specs.Course.{Within}
+use Rattle.content.proofs.Placed.{placed-within}
+use Rattle.entry.specs.Entries.{endOf, placeAt, keyOf, keyPlaceAt, keyEnd, keyEntryAt, entryRead, keyRead, valueStart}
 use Rattle.gate.specs.Said.{Said, says, readSaid, partSaid}
 use Rattle.jsonb.specs.Views.{rootRead}
-use Rattle.events.specs.declared.Walked.the-variants.{Stopped}
-use Rattle.events.specs.Events.{noKey}
-use Rattle.events.specs.Text.{isText}
-use Rattle.walk.specs.Judged.{Judged, Stand, bad, spot, valueJudged, keyJudged, judged, node, childless}
-use Rattle.events.specs.Lay.{Laid, laid, lay}
+use Rattle.events.specs.declared.Walked.{Walked}
+use Rattle.events.specs.declared.Walked.the-variants.{Done, Stopped}
+use Rattle.events.specs.Events.{noKey, wide, eventOf}
+use Rattle.events.specs.Text.{isText, isTextual}
+use Rattle.events.specs.declared.Event.{Event}
+use Rattle.events.specs.Listing.{end, fault, event}
+use Rattle.root.specs.Root.{firstByte, valueNode, readNode, rootNode}
+use Rattle.walk.specs.Judged.{Judged, Stand, bad, good, spot, valueJudged, keyJudged, judged, node, childless}
+use Rattle.events.specs.Lay.{Laid, laid, lay, put, room}
+use Rattle.events.proofs.Cases.{room-for}
+use Rattle.sight.specs.declared.Sight.{Sight}
+use Rattle.sight.specs.Sights.{sightOf, sightAt}
+use Rattle.sight.specs.Course.{Fit}
+use Rattle.sight.proofs.Laws.{sight-entry, entry-sound, root-sound}
 use Rattle.walk.specs.Paths.{rootStand}
-use Rattle.walk.specs.Course.{entryStand, leadsBy}
-use Rattle.walk.specs.Tested.{keyOf}
-use Rattle.walk.specs.declared.Leads.the-variants.{Array, Object}
+use Rattle.walk.specs.Course.{entryStand, leadsBy, leadsTo}
+use Rattle.walk.specs.Tested.{Last, Listed}
+use Rattle.walk.specs.Seen.{seenNumber, seenLeaves, seenEvent, putSeen, putPath, leadsIn, stoppedAt}
+use Rattle.walk.specs.declared.Child.{Child}
+use Rattle.walk.specs.declared.Leads.{Leads}
+use Rattle.walk.specs.declared.Leads.the-variants.{Array, Object, Nothing}
+use Rattle.walk.proofs.Seen.{Seen, put-parts, seen-stopped, seen-done, seen-leads, seen-last}
 
 -- what a container leads to
 module _ (v : View) where
@@ -37,31 +59,49 @@ module _ (v : View) where
   pub leads-array : v .kind .object ≡ false → Array v ≡ leadsBy v (v .kind .object)
   leads-array e = sym (ap (leadsBy v) e)
 
+-- and the value of an event by its code; r is what its container leads to as the callee gives it
+module _ (out : List ℕ) (n : ℕ) where
+  abbrev code : ℕ
+  code = getD out (8 * n) 0
+
+  pub no-leads : 3 < code → Nothing ≡ leadsIn out n
+  unfolding leadsIn
+  no-leads h = yes _ (lt-ltb 3 code h) refl
+
+  pub some-leads : {r : Leads} → code ≤ 3 →
+      r ≡ leadsBy (view (getD out (8 * n + 5) 0) (getD out (8 * n + 6) 0) (getD out (8 * n + 7) 0) (kind (ltb code 2) (eqb (code % 2) 1))) (ltb code 2) → r ≡ leadsIn out n
+  unfolding leadsIn
+  some-leads h e = no _ (le-ltb 3 code h) e
+
+-- the kind of an object or an array
+pub same-kind : (k : Kind) {b : Bool} → k .object ≡ b → kind b (k .large) ≡ k
+same-kind k e = ap (λ (b : Bool). kind b (k .large)) (sym e)
+
 -- no key is text
 pub no-key-text : (d : List ℕ) → isText d noKey ≡ true
 unfolding isText run
 no-key-text d = sym (no _ (le-ltb (length d) 0 (omega arith)) refl)
 
+-- no walk both stops and is done
+pub never : {A : Type 0} {f p n m : ℕ} → Stopped f p n ≡ Done m → A
+never e = let z : _≡_ {A = ℕ} 0 1 = cc in absurd (omega arith)
+
+-- room is never above its bound
+room-small : (out : List ℕ) → room out ≤ 4294967295
+unfolding room
+room-small out = go (ltb 4294967295 (length out / wide)) refl
+  where
+    go : (b : Bool) → ltb 4294967295 (length out / wide) ≡ b → cond b 4294967295 (length out / wide) ≤ 4294967295
+    go true e = omega arith
+    go false e = ltb-false 4294967295 (length out / wide) e
+
+seen-length : (out : List ℕ) (n : ℕ) (x : Sight) → length (putSeen out n x) ≡ length out
+unfolding putSeen
+seen-length out n x = simp length-set refl
+
 -- what was judged, laid by itself
 abbrev own : List ℕ → ℕ → Judged → ℕ → Laid
 own out n j p = lay (node j p childless) out n
-
--- the value of an entry: read, or refused; its place p and its own first byte f as callees give them
-module _ (d : List ℕ) (v : View) (i depth : ℕ) (key : Span) (out : List ℕ) (n : ℕ) where
-  abbrev value-at : ℕ → ℕ → Read → Laid
-  value-at q f y = own out n (valueJudged d (spot depth i q key f) (readSaid y)) q
-
-  pub value-listed : {r : Read} {x : Value} {p f : ℕ} {l : Laid} → p ≡ placeAt v i → r ≡ read.Value x → f ≡ valueStart d v i → value-at p f (read.Value x) ≡ l →
-      value-at (placeAt v i) (valueStart d v i) r ≡ l
-  value-listed {x = x} {p = p} pe re fe e =
-      ap (value-at (placeAt v i) (valueStart d v i)) re
-      ∙ ap (λ (q : ℕ). value-at q (valueStart d v i) (read.Value x)) (sym pe)
-      ∙ ap (λ (q : ℕ). value-at p q (read.Value x)) (sym fe)
-      ∙ e
-
-  pub value-refused : {r : Read} {p m : ℕ} → p ≡ placeAt v i → r ≡ read.Refused m → value-at (placeAt v i) (valueStart d v i) r ≡ laid (Stopped m p n) out
-  unfolding lay
-  value-refused {m = m} pe re = ap (value-at (placeAt v i) (valueStart d v i)) re ∙ ap (λ (q : ℕ). laid (Stopped m q n) out) (sym pe)
 
 -- what stands at a path whose key is told, and is text or is not
 module _ (d : List ℕ) (depth i : ℕ) (s : Stand) (p : ℕ) (out : List ℕ) (n : ℕ) where
@@ -81,65 +121,195 @@ module _ (d : List ℕ) (depth i : ℕ) (s : Stand) (p : ℕ) (out : List ℕ) (
 
 -- the key of an entry: a member's is read, an element has none
 module _ (d : List ℕ) (v : View) (i : ℕ) where
-  pub member-key : {p : Part} → v .kind .object ≡ true → p ≡ keyRead d v i → p ≡ keyOf d v i
-  member-key o e = yes _ o e
+  abbrev key-by : Bool → Said Span
+  key-by b = cond b (partSaid (keyRead d v i)) (says noKey)
 
-  pub element-key : v .kind .object ≡ false → part.Bytes noKey ≡ keyOf d v i
-  element-key o = no _ o refl
+  pub element-key : v .kind .object ≡ false → entryStand d v i .key ≡ says noKey
+  element-key o = ap key-by o
 
-  key-by : (b : Bool) → partSaid (cond b (keyRead d v i) (part.Bytes noKey)) ≡ cond b (partSaid (keyRead d v i)) (says noKey)
-  key-by true = refl
-  key-by false = refl
+  -- the document has the entry of a container that fits it
+  module _ (f : Fit d v) (h : i < v .count) where
+    pub key-within : Within (length d) (keyPlaceAt v i + keyEntry (v .kind)) (endOf v)
+    key-within = record { order = omega (arith, key-inside (v .kind) (v .count) i h, f .header); inside = f .inside; short = f .short }
 
-  -- it is what stands there
-  pub key-said : partSaid (keyOf d v i) ≡ entryStand d v i .key
-  key-said = key-by (v .kind .object)
+    -- its key y, read at the place q, as callees give them
+    module _ {y : Part} {q : ℕ} (qe : q ≡ keyPlaceAt v i) (ye : y ≡ keyOf d v q) where
+      pub member-key : v .kind .object ≡ true → entryStand d v i .key ≡ partSaid y
+      unfolding keyRead keyEntryAt
+      member-key o = ap key-by o ∙ ap partSaid (placed-within d (keyEnd v i) (endOf v) part.Refused key-within ∙ ap (keyOf d v) (sym qe) ∙ sym ye)
 
--- an entry; its key y and the key's place q as callees give them
-module _ (d : List ℕ) (v : View) (i depth : ℕ) (out : List ℕ) (n : ℕ) {y : Part} (ye : y ≡ keyOf d v i) where
-  abbrev listed : Laid
-  listed = own out n (judged d depth i (entryStand d v i)) (placeAt v i)
+-- a key's entry that the container has: its offset and its length; o, l, w and k are the offset, the length, the offset size and the kind as callees give them
+module _ (d : List ℕ) (v : View) (p : ℕ) (ob : v .kind .object ≡ true) (w : Within (length d) (p + keyEntry (v .kind)) (endOf v)) {k : Kind} (ke : k ≡ v .kind) where
+  entry-size : p + keyEntry (v .kind) ≡ p + (offsetSize (v .kind) + 2)
+  unfolding keyEntry
+  entry-size = ap (λ (b : Bool). p + cond b (offsetSize (v .kind) + 2) 0) ob
 
-  key-is : {z : Part} → y ≡ z → entryStand d v i .key ≡ partSaid z
-  key-is yz = sym (ap partSaid (sym yz ∙ ye) ∙ key-said d v i)
+  same-size : offsetSize (kind false (k .large)) ≡ offsetSize (v .kind)
+  unfolding offsetSize
+  same-size = ap (λ (x : Kind). cond (x .large) 4 2) ke
 
-  pub key-refused : {m q : ℕ} → y ≡ part.Refused m → q ≡ keyPlaceAt v i → listed ≡ laid (Stopped m q n) out
+  pub offset-within : Within (length d) (p + offsetSize (kind false (k .large))) (endOf v)
+  offset-within = record { order = omega (arith, w .order, entry-size, same-size); inside = w .inside; short = w .short }
+
+  pub offset-is : {o : ℕ} → o ≡ offsetAt d (kind false (k .large)) p (endOf v) → o ≡ offsetAt d (v .kind) p (endOf v)
+  unfolding offsetAt
+  offset-is oe = oe ∙ ap (λ (x : Kind). cond (x .large) (le 4 d p (endOf v)) (le 2 d p (endOf v))) ke
+
+  module _ {m : ℕ} (me : m ≡ offsetSize k) where
+    size-is : m ≡ offsetSize (v .kind)
+    size-is = me ∙ ap offsetSize ke
+
+    pub length-within : p + m + 2 ≤ length d
+    length-within = omega (arith, w .order, w .inside, entry-size, size-is)
+
+    pub length-is : {l : ℕ} → l ≡ valueOf (take 2 (drop (p + m) d)) → l ≡ le 2 d (p + m) (endOf v)
+    length-is le = le ∙ sym (le-inside 2 d (p + m) (endOf v) (omega (arith, w .order, entry-size, size-is)))
+
+-- an entry whose key is refused, or is no text; its key y and the key's place q as callees give them
+module _ (d : List ℕ) (v : View) (i depth : ℕ) (out : List ℕ) (n : ℕ) (y : Part) (ye : entryStand d v i .key ≡ partSaid y) {q : ℕ} (qe : q ≡ keyPlaceAt v i) where
+  stopped-so : {f : ℕ} {c : Child} → c ≡ stoppedAt f q n → own out n (judged d depth i (entryStand d v i)) (placeAt v i) ≡ laid (Stopped f q n) out → Listed d v i depth out n c out
+  stopped-so ce e = subst (λ (c : Child). Listed d v i depth out n c out) (sym ce) (record { listed = e; leads = λ m. never m; last = tt })
+
+  pub key-refused : {m : ℕ} {c : Child} → y ≡ part.Refused m → c ≡ stoppedAt m q n → Listed d v i depth out n c out
   unfolding lay
-  key-refused {m} yz qe =
-      ap (by-key d depth i (entryStand d v i) (placeAt v i) out n) (key-is yz) ∙ ap (λ (a : ℕ). laid (Stopped m a n) out) (sym qe)
+  key-refused {m} yz ce =
+      stopped-so ce (ap (by-key d depth i (entryStand d v i) (placeAt v i) out n) (ye ∙ ap partSaid yz) ∙ ap (λ (a : ℕ). laid (Stopped m a n) out) (sym qe))
 
-  module _ {k : Span} (yk : y ≡ part.Bytes k) {b : Bool} (be : b ≡ isText d k) where
-    pub key-bad : {q : ℕ} → b ≡ false → q ≡ keyPlaceAt v i → listed ≡ laid (Stopped 9 q n) out
-    key-bad t qe = key-no-text d depth i (entryStand d v i) (placeAt v i) out n (key-is yk) (sym be ∙ t) qe
+  pub key-bad : {k : Span} {b : Bool} {c : Child} → y ≡ part.Bytes k → b ≡ isText d k → b ≡ false → c ≡ stoppedAt 9 q n → Listed d v i depth out n c out
+  key-bad yk be t ce = stopped-so ce (key-no-text d depth i (entryStand d v i) (placeAt v i) out n (ye ∙ ap partSaid yk) (sym be ∙ t) qe)
 
-    pub key-good : {r : Read} {l : Laid} → b ≡ true → r ≡ entryRead d v i →
-        own out n (valueJudged d (spot depth i (placeAt v i) k (valueStart d v i)) (readSaid r)) (placeAt v i) ≡ l → listed ≡ l
-    key-good t re e =
-        key-text d depth i (entryStand d v i) (placeAt v i) out n (key-is yk) (sym be ∙ t)
-        ∙ ap (λ (x : Read). own out n (valueJudged d (spot depth i (placeAt v i) k (valueStart d v i)) (readSaid x)) (placeAt v i)) (sym re)
-        ∙ e
+-- an entry whose key is text; its key k, its place p, its kind g, the number f of its listing and what that left, o, as callees give them
+module _ (d : List ℕ) (v : View) (i depth : ℕ) (out : List ℕ) (n : ℕ) (k : Span) (ke : entryStand d v i .key ≡ says k) (kt : isText d k ≡ true) {g : Kind} (ge : g ≡ v .kind)
+    {p f : ℕ} (pe : p ≡ placeAt v i) {o : List ℕ}
+    (fe : f ≡ seenNumber d (sightAt d (g .large) (v .start) (v .size) p) out n)
+    (oe : o ≡ seenLeaves f (sightAt d (g .large) (v .start) (v .size) p) out n) where
+  abbrev what : Read
+  what = entryRead d v i
 
--- the root has no key; its own first byte f as the callee gives it
-module _ (d : List ℕ) where
-  pub root-empty : length d ≡ 0 → 0 ≡ rootStand d .from
-  root-empty e = yes _ (eq-eqb (length d) 0 e) refl
+  abbrev from : ℕ
+  from = valueStart d v i
 
-  pub root-first : (length d ≡ 0 → ⊥) → 1 ≡ rootStand d .from
-  root-first e = no _ (ne-eqb (length d) 0 e) refl
+  abbrev all : Laid
+  all = own out n (judged d depth i (entryStand d v i)) (placeAt v i)
 
-  module _ (out : List ℕ) {r : Read} (re : r ≡ rootRead d) where
-    abbrev root : Laid
-    root = own out 0 (judged d 0 0 (rootStand d)) 0
+  sight-is : sightAt d (g .large) (v .start) (v .size) p ≡ sightOf what from
+  sight-is =
+      ap (λ (q : Kind). sightAt d (q .large) (v .start) (v .size) p) ge ∙ ap (sightAt d (v .kind .large) (v .start) (v .size)) pe ∙ sight-entry d v i
 
-    abbrev root-at : ℕ → Read → Laid
-    root-at f y = own out 0 (valueJudged d (spot 0 0 0 noKey f) (readSaid y)) 0
+  number-is : f ≡ seenNumber d (sightOf what from) out n
+  number-is = fe ∙ ap (λ (x : Sight). seenNumber d x out n) sight-is
 
-    root-by : {y : Read} → r ≡ y → root ≡ root-at (rootStand d .from) y
-    root-by ry = key-text d 0 0 (rootStand d) 0 out 0 refl (no-key-text d) ∙ ap (root-at (rootStand d .from)) (sym re ∙ ry)
+  leaves-is : {b : Bool} → eqb f 0 ≡ b → o ≡ cond b (putSeen out n (sightOf what from)) out
+  unfolding seenLeaves
+  leaves-is e = oe ∙ ap (λ (x : Sight). cond (eqb f 0) (putSeen out n x) out) sight-is ∙ ap (λ (b : Bool). cond b (putSeen out n (sightOf what from)) out) e
 
-    pub root-listed : {x : Value} {f : ℕ} {l : Laid} → r ≡ read.Value x → f ≡ rootStand d .from → root-at f (read.Value x) ≡ l → root ≡ l
-    root-listed {x} rx fe e = root-by rx ∙ ap (λ (f : ℕ). root-at f (read.Value x)) (sym fe) ∙ e
+  value-of : all ≡ own out n (valueJudged d (spot depth i (placeAt v i) k from) (readSaid what)) (placeAt v i)
+  value-of = key-text d depth i (entryStand d v i) (placeAt v i) out n ke kt
 
-    pub root-refused : {m : ℕ} → r ≡ read.Refused m → root ≡ laid (Stopped m 0 0) out
-    unfolding lay
-    root-refused rm = root-by rm
+  -- it was not listed
+  pub entry-stopped : (f ≡ 0 → ⊥) → {c : Child} → c ≡ stoppedAt f p n → Listed d v i depth out n c o
+  entry-stopped z ce =
+      subst (λ (c : Child). Listed d v i depth out n c o) (sym ce)
+      (record {
+        listed =
+            value-of
+            ∙ seen-stopped d out n depth i (placeAt v i) from k what (entry-sound d v i) number-is z
+            ∙ ap (λ (q : ℕ). laid (Stopped f q n) out) (sym pe)
+            ∙ ap (laid (Stopped f p n)) (sym (leaves-is (ne-eqb f 0 z)));
+        leads = λ e. never e;
+        last = tt;
+      })
+
+  module _ (z : f ≡ 0) where
+    abbrev done : Seen d out n depth i (placeAt v i) from k what
+    done = seen-done d out n depth i (placeAt v i) from k what (entry-sound d v i) number-is z
+
+    room-here : 8 * n + 8 ≤ length out
+    room-here = room-for out n (done .fits)
+
+    pub entry-small : n + 1 ≤ 4294967295
+    entry-small = omega (arith, done .fits, room-small out)
+
+    pub entry-open : 8 * n + 8 ≤ length o
+    entry-open = let h : length o ≡ length out = ap length (leaves-is (eq-eqb f 0 z)) ∙ seen-length out n (sightOf what from) in omega (arith, room-here)
+
+    -- it was, and its path put down after it leaves q, where its value leads to y
+    pub entry-listed : {q : List ℕ} {y : Leads} → q ≡ putPath o n depth i k → y ≡ leadsIn q n → Listed d v i depth out n (record { own = Done (n + 1); leads = y }) q
+    entry-listed {q} {y} qe ye =
+        let e : q ≡ put out n (seenEvent depth i k (sightOf what from)) =
+        qe ∙ ap (λ (l : List ℕ). putPath l n depth i k) (leaves-is (eq-eqb f 0 z)) ∙ put-parts out n depth i k (sightOf what from) in
+        record {
+          listed = value-of ∙ done .listed ∙ ap (laid (Done (n + 1))) (sym e);
+          leads = λ m. ye ∙ ap (λ (l : List ℕ). leadsIn l n) e ∙ seen-leads d out n depth i from k what (entry-sound d v i) (done .read) room-here;
+          last =
+              subst (λ (l : List ℕ). Last d l (n + 1)) (sym e)
+              (seen-last d out n depth i from k what (entry-sound d v i) (done .read) (done .text) kt room-here);
+        }
+
+-- the root has no key
+module _ (d out : List ℕ) where
+  abbrev root : Laid
+  root = own out 0 (judged d 0 0 (rootStand d)) 0
+
+  abbrev root-at : Read → Laid
+  root-at y = own out 0 (valueJudged d (spot 0 0 0 noKey (rootStand d .from)) (readSaid y)) 0
+
+  root-by : root ≡ root-at (rootRead d)
+  root-by = key-text d 0 0 (rootStand d) 0 out 0 refl (no-key-text d)
+
+  -- it is listed as the crate root lists it
+  root-read : (y : Read) → root-at y ≡ lay (readNode d y) out 0
+  unfolding valueNode firstByte
+  root-read (read.Value x) = go (isTextual d x)
+    where
+      go : (b : Bool) →
+          own out 0 (cond b (good (eventOf (spot 0 0 0 noKey (rootStand d .from)) x) x) (bad 9 0)) 0 ≡ lay (cond b (event (eventOf (spot 0 0 0 noKey (rootStand d .from)) x) 0 end) (fault 9 0)) out 0
+      go true = refl
+      go false = refl
+  root-read (read.Refused n) = refl
+
+  pub root-node : {l : Laid} → lay (rootNode d) out 0 ≡ l → root ≡ l
+  unfolding rootNode
+  root-node e = root-by ∙ root-read (rootRead d) ∙ e
+
+  -- a root that was listed, by one event: its value was tested, and is read back
+  pub record Rooted (o : List ℕ) (m : ℕ) : Type 0 where
+    pub last : Last d o m
+    pub room : 8 ≤ length o
+    pub leads : leadsIn o 0 ≡ leadsTo (rootRead d)
+
+  pub rooted : {w : Walked} {o : List ℕ} {m : ℕ} → root ≡ laid w o → w ≡ Done m → Rooted o m
+  rooted {w} {o} {m} e we = go (eqb number 0) refl
+    where
+      first : ℕ
+      first = rootStand d .from
+
+      shown : Event
+      shown = seenEvent 0 0 noKey (sightOf (rootRead d) first)
+
+      number : ℕ
+      number = seenNumber d (sightOf (rootRead d) first) out 0
+
+      ends : root-at (rootRead d) ≡ laid (Done m) o
+      ends = sym root-by ∙ e ∙ ap (λ (x : Walked). laid x o) we
+
+      go : (b : Bool) → eqb number 0 ≡ b → Rooted o m
+      go true q =
+          let s = seen-done d out 0 0 0 0 first noKey (rootRead d) (root-sound d) refl (eqb-true number 0 q) in
+          let h : laid (Done m) o ≡ laid (Done 1) (put out 0 shown) = sym ends ∙ s .listed in
+          let x : o ≡ put out 0 shown = cc in
+          let y : m ≡ 1 = cc in
+          let r : 8 * 0 + 8 ≤ length out = room-for out 0 (s .fits) in
+          let t : Last d o 1 =
+          subst (λ (l : List ℕ). Last d l 1) (sym x)
+          (seen-last d out 0 0 0 first noKey (rootRead d) (root-sound d) (s .read) (s .text) (no-key-text d) r) in
+          record {
+            last = subst (Last d o) (sym y) t;
+            room = t .room;
+            leads = ap (λ (l : List ℕ). leadsIn l 0) x ∙ seen-leads d out 0 0 0 first noKey (rootRead d) (root-sound d) (s .read) r;
+          }
+      go false q =
+          let h : laid (Stopped number 0 0) out ≡ laid (Done m) o =
+          sym (seen-stopped d out 0 0 0 0 first noKey (rootRead d) (root-sound d) refl (eqb-false number 0 q)) ∙ ends in
+          let x : Stopped number 0 0 ≡ Done m = cc in
+          never x

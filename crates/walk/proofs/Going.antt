@@ -4,7 +4,7 @@
 --     stopped, stopped-below, on     it stops at an entry, stops below it, and takes a turn
 --     Came, came                     what an entry and all below it answered
 -- Assumes nothing.
-use mathlib.Core.Path.{_≡_, refl, sym, ap, _∙_}
+use mathlib.Core.Path.{_≡_, refl, sym, ap, subst, _∙_}
 use mathlib.Core.List.{List}
 use Prim.Native.Nat.{ℕ, zero, suc, _+_, _-_, _≤_, _<_}
 use native.Mathlib.Omega.{arith}
@@ -22,6 +22,7 @@ use Rattle.walk.specs.Judged.{judged, node, childless}
 use Rattle.events.specs.Listing.{Listing}
 use Rattle.walk.specs.Course.{_then_, entries, entryStand, entryListing, children}
 use Rattle.events.specs.Lay.{Laid, laid, lay}
+use Rattle.walk.specs.Tested.{Last, Kept}
 use Rattle.walk.proofs.Node.{next, lay-then, below, apart}
 
 -- with l levels left, the walk of v began at event n₀ with the list out₀, and stands before entry i, at event n, with the list out
@@ -34,6 +35,7 @@ pub record Going (l : ℕ) (d : List ℕ) (v : View) (out₀ : List ℕ) (n₀ :
 pub record Came (l : ℕ) (d : List ℕ) (v : View) (out : List ℕ) (n i : ℕ) (w : Walked) (o : List ℕ) : Type 0 where
   pub listed : lay (entryListing l d v i) out n ≡ laid w o
   pub kept : length o ≡ length out
+  pub last : Kept d w o
 
 one-more : (f : ℕ → Listing) (k i : ℕ) → i < k → entries f (k - i) i ≡ f i then entries f (k - (i + 1)) (i + 1)
 unfolding entries
@@ -90,8 +92,8 @@ module _ {l : ℕ} {d : List ℕ} {v : View} {out₀ : List ℕ} {n₀ : ℕ} wh
 
         -- what the walk below it answered, w, and left, o'
         pub came : {m : ℕ} {w : Walked} {o' : List ℕ} → own ≡ Done m → length o ≡ length out →
-            (lay (below (l - 1) d r) o m ≡ laid w o') × (length o' ≡ length o) → Came l d v out n i w o'
-        came e s c = record { listed = entered e ∙ c .0; kept = c .1 ∙ s }
+            (lay (below (l - 1) d r) o m ≡ laid w o') × ((length o' ≡ length o) × Kept d w o') → Came l d v out n i w o'
+        came e s c = record { listed = entered e ∙ c .0; kept = c .1 .0 ∙ s; last = c .1 .1 }
 
       -- what the entry and all below it answered, w, and left, o
       module _ {w : Walked} {o : List ℕ} (c : Came l d v out n i w o) where
@@ -101,5 +103,5 @@ module _ {l : ℕ} {d : List ℕ} {v : View} {out₀ : List ℕ} {n₀ : ℕ} wh
         pub stopped-below : {q p m : ℕ} → w ≡ Stopped q p m → lay (children l d (Container v)) out₀ n₀ ≡ laid w o
         stopped-below e = after e ∙ ap (λ (x : Walked). laid x o) (sym e)
 
-        pub on : {m : ℕ} → w ≡ Done m → Going l d v out₀ n₀ o m (i + 1)
-        on e = record { within = omega arith; same = c .kept ∙ g .same; left = sym (after e) }
+        pub on : {m : ℕ} → w ≡ Done m → Going l d v out₀ n₀ o m (i + 1) × Last d o m
+        on e = (record { within = omega arith; same = c .kept ∙ g .same; left = sym (after e) }, subst (λ (x : Walked). Kept d x o) e (c .last))

@@ -6,3 +6,4 @@ pub mod Whole
 pub mod Scan
 pub mod Bridge
 mod Tested
+mod Seen

@@ -26,6 +26,7 @@ use Rattle.events.specs.Listing.{Listing, end, fault, event}
 use Rattle.walk.specs.Course.{_then_, entries, children, listing, leadsBy, leadsOf, leadsTo}
 use Rattle.events.specs.Lay.{Laid, laid, lay, put, room}
 use Rattle.walk.specs.Paths.{rootStand}
+use Rattle.walk.specs.Tested.{Last, Kept}
 use Rattle.walk.specs.declared.Leads.{Leads}
 use Rattle.walk.specs.declared.Leads.the-variants.{Array, Object, Nothing}
 
@@ -48,6 +49,13 @@ lay-then (event e p l) b out n =
 
 pub same : {a b : Walked} {o q : List ℕ} → a ≡ b → o ≡ q → laid b q ≡ laid a o
 same {a} {b} {o} {q} e f = ap (λ (w : Walked). laid w q) (sym e) ∙ ap (λ (l : List ℕ). laid a l) (sym f)
+
+-- what a walk keeps, by what it answered and left
+pub kept : (d : List ℕ) {a b : Walked} {o q : List ℕ} → a ≡ b → o ≡ q → Kept d b q → Kept d a o
+kept d {a} {b} {o} {q} e f h = subst (λ (w : Walked). Kept d w o) (sym e) (subst (λ (l : List ℕ). Kept d b l) (sym f) h)
+
+pub done-last : (d : List ℕ) {a : Walked} {o : List ℕ} {m : ℕ} → a ≡ Done m → Kept d a o → Last d o m
+done-last d {o = o} e h = subst (λ (w : Walked). Kept d w o) e h
 
 -- ---- what is below a value that was read, with so many levels left
 pub below : ℕ → List ℕ → Read → Listing

@@ -2,7 +2,7 @@
 --     Judged            what is said of one path: its event, or its first fault with its number and its place
 --     Paths             which paths there are and in which order: the lists of positions that lead from the root along `elemAt` of the crate jsonb
 --     Shown             what a walk answers and leaves in the lent list; `Walks` is its whole promise
---     Course, Tested    the walk as the code goes; no promise rests on them
+--     Course, Tested, Seen    the walk as the code goes; no promise rests on them
 -- The order of faults at one path is document 01's: 11 (`said` of Paths), the key's 5, the key's 9, the value's, a string's 9 (`judged`), and last 12 (`cut` of
 -- Shown); the first path in order decides. A place is the first byte of the key entry for the key's faults, and of the value entry for all others, counted
 -- from the document's first byte; 0 at the root.
@@ -21,3 +21,4 @@ pub mod Paths
 pub mod Shown
 pub mod Course
 pub mod Tested
+pub mod Seen

@@ -1,25 +1,27 @@
 // The walk: every path of a document, in order, as events in a lent list.
 use content::Part;
-use content::Read;
-use events::Spot;
 pub use events::Walked;
-use value::Scalar;
+use layout::Kind;
+use sight::Sight;
 use value::Span;
-use value::Value;
 use value::View;
 ghost use mathlib.Core.Path.{_≡_};
 ghost use mathlib.Core.Bool.{true, false};
-ghost use Prim.Native.Nat.{_≤_};
+ghost use Prim.Native.Nat.{_+_, _*_, _<_, _≤_};
+ghost use lib.ListN.{length, take, drop};
+ghost use Rattle.raw.specs.Numbers.{value as valueOf};
+ghost use Rattle.layout.specs.Layout.{offsetSize, keyEntry, offsetAt};
 ghost use Rattle.value.specs.declared.Value.the-variants.{Container};
-ghost use Rattle.entry.specs.Entries.{entryRead, placeAt, valueStart};
-ghost use Rattle.jsonb.specs.Views.{rootRead};
-ghost use Rattle.gate.specs.Said.{says, readSaid};
+ghost use Rattle.content.specs.Course.{Within};
+ghost use Rattle.content.specs.Reading.{kind};
+ghost use Rattle.entry.specs.Entries.{endOf, keyOf};
 ghost use Rattle.events.specs.Text.{isText};
-ghost use Rattle.walk.specs.Judged.{spot, valueJudged, judged, node, childless};
-ghost use Rattle.events.specs.Lay.{lay, laid};
-ghost use Rattle.walk.specs.Paths.{rootStand};
-ghost use Rattle.walk.specs.Course.{entryStand, children, leadsBy, leadsOf, leadsTo};
-ghost use Rattle.walk.specs.Tested.{stringIn, stringOf, keyOf, keyIn, textIn, Tested, Listed};
+ghost use Rattle.events.specs.Lay.{lay, laid, room as roomOf};
+ghost use Rattle.sight.specs.Sights.{sightAt};
+ghost use Rattle.sight.specs.Course.{Fit};
+ghost use Rattle.walk.specs.Course.{children, leadsBy};
+ghost use Rattle.walk.specs.Tested.{Last, Kept, Listed};
+ghost use Rattle.walk.specs.Seen.{seenText, seenNumber, seenLeaves, putPath, leadsIn, stoppedAt};
 ghost use Rattle.walk.specs.Shown.{Walks};
 
 // What a value leads to: the elements of an array, the members of an object, or nothing.
@@ -29,17 +31,10 @@ enum Leads {
     Nothing,
 }
 
-// The key and the string that were tested last: neighbours may share them, and what was tested need not be tested again.
-struct Known {
-    key: Span,
-    text: Span,
-}
-
-// What the listing of one entry came to, what its value leads to, and the texts that are known after it.
+// What the listing of one entry came to, and what its value leads to where it was listed.
 struct Child {
     own: Walked,
     leads: Leads,
-    known: Known,
 }
 
 fn leads_by(v: View) -> Leads
@@ -52,215 +47,263 @@ fn leads_by(v: View) -> Leads
     Leads::Array(v)
 }
 
-fn leads_of(x: Value) -> Leads
-    ensures { λ r. ⌜ r ≡ leadsOf x ⌝ }
+fn wide(x: u8) -> u32
+    ensures { λ r. ⌜ (r ≡ x) × (r < 256) ⌝ }
 {
-    match x {
-        Value::Scalar(_, _) => Leads::Nothing,
-        Value::Container(v) => leads_by(v),
+    x as u32
+}
+
+// Two and four bytes that are all there, lowest first. The compiler makes one load of each.
+fn pair_at(doc: &[u8], at: usize) -> u32
+    requires { ⌜ at + 2 ≤ length (now doc) ⌝ }
+    ensures { λ r. ⌜ (r ≡ valueOf (take 2 (drop at (now (doc .entry))))) × (r < 65536) ⌝ }
+{
+    wide(doc[at]) + 256 * wide(doc[at + 1])
+}
+
+fn four_at(doc: &[u8], at: usize) -> u32
+    requires { ⌜ at + 4 ≤ length (now doc) ⌝ }
+    ensures { λ r. ⌜ r ≡ valueOf (take 4 (drop at (now (doc .entry)))) ⌝ }
+{
+    pair_at(doc, at) + 65536 * pair_at(doc, at + 2)
+}
+
+fn offset_at(doc: &[u8], large: bool, at: usize, end: usize) -> u32
+    requires { ⌜ Within (length (now doc)) (at + offsetSize (kind false large)) end ⌝ }
+    ensures { λ r. ⌜ r ≡ offsetAt (now (doc .entry)) (kind false large) at end ⌝ }
+{
+    if large {
+        return four_at(doc, at);
+    }
+    pair_at(doc, at)
+}
+
+// The kind of a view that is known to be of an object or not: the compiler then leaves out what is asked of it.
+fn as_kind(object: bool, v: View) -> Kind
+    requires { ⌜ v .kind .object ≡ object ⌝ }
+    ensures { λ r. ⌜ r ≡ v .kind ⌝ }
+{
+    let k = v.kind;
+    Kind {
+        object,
+        large: k.large,
     }
 }
 
-fn leads_to(r: Read) -> Leads
-    ensures { λ l. ⌜ l ≡ leadsTo r ⌝ }
+// The key of an entry at a place that the container has.
+fn key_at(doc: &[u8], v: View, place: usize) -> Part
+    requires { ⌜ (v .kind .object ≡ true) × Within (length (now doc)) (place + keyEntry (v .kind)) (endOf v) ⌝ }
+    ensures { λ r. ⌜ r ≡ keyOf (now (doc .entry)) v place ⌝ }
 {
-    match r {
-        Read::Value(x) => leads_of(x),
-        Read::Refused(_) => Leads::Nothing,
+    let k = as_kind(true, v);
+    let start = v.start as usize;
+    let end = start + v.size as usize;
+    let offset = offset_at(doc, k.large, place, end) as usize;
+    let len = pair_at(doc, place + k.offset_size());
+    if offset < k.header_size(v.count) {
+        return Part::Refused(refusal::KEY);
     }
+    if (v.size as usize) < offset + len as usize {
+        return Part::Refused(refusal::KEY);
+    }
+    Part::Bytes(Span {
+        start: (start + offset) as u32,
+        len,
+    })
 }
 
-// The string of a scalar; of another, one that is known.
-fn string_in(s: Scalar, known: Span) -> Span
-    ensures { λ r. ⌜ r ≡ stringIn s known ⌝ }
+// Whether a key is UTF-8; that of the last event was tested.
+fn is_key(doc: &[u8], out: &[u32], n: usize, key: Span) -> bool
+    requires { ⌜ Last (now doc) (now out) n ⌝ }
+    ensures { λ r. ⌜ r ≡ isText (now (doc .entry)) key ⌝ }
 {
-    match s {
-        Scalar::Null => known,
-        Scalar::Boolean(_) => known,
-        Scalar::Number(_) => known,
-        Scalar::String(p) => p,
-        Scalar::Opaque(_, _) => known,
-    }
-}
-
-fn string_of(x: Value, known: Span) -> Span
-    ensures { λ r. ⌜ r ≡ stringOf x known ⌝ }
-{
-    match x {
-        Value::Scalar(_, s) => string_in(s, known),
-        Value::Container(_) => known,
-    }
-}
-
-// Whether a part is UTF-8, where another is known to be: what was tested is not tested again.
-fn is_known_text(doc: &[u8], known: Span, s: Span) -> bool
-    requires { ⌜ isText (now doc) known ≡ true ⌝ }
-    ensures { λ r. ⌜ r ≡ isText (now (doc .entry)) s ⌝ }
-{
-    if s.start == known.start {
-        if s.len == known.len {
+    let at = 8 * n - 8;
+    if out[at + 3] == key.start {
+        if out[at + 4] == key.len {
             return true;
         }
     }
-    events::is_text(doc, s)
+    events::is_text(doc, key)
 }
 
-// Lists one value, without what is below it: 9 for a string that is no text, then 12 where there is no room.
-fn list_value(doc: &[u8], out: &mut [u32], n: usize, s: Spot, x: Value, known: Span) -> Walked
-    requires { ⌜ isText (now doc) known ≡ true ⌝ }
-    ensures { λ r. ⌜ lay (node (valueJudged (now (doc .entry)) s (says x)) (s .place) childless) (now (out .entry)) n ≡ laid r (now (out .exit)) ⌝ }
+// Whether what is seen is no string that is not UTF-8; that of the last event was tested.
+fn is_seen_text(doc: &[u8], out: &[u32], n: usize, x: Sight) -> bool
+    requires { ⌜ Last (now doc) (now out) n ⌝ }
+    ensures { λ r. ⌜ r ≡ seenText (now (doc .entry)) x ⌝ }
 {
-    let text = string_of(x, known);
-    if !is_known_text(doc, known, text) {
-        return Walked::Stopped {
-            number: refusal::UTF8,
-            place: s.place,
-            count: n,
-        };
+    if x.code != 12 {
+        return true;
     }
-    events::put_value(out, n, s, x)
+    let part = x.part;
+    let at = 8 * n - 8;
+    if out[at + 5] == part.start {
+        if out[at + 6] == part.len {
+            if out[at] == 12 {
+                return true;
+            }
+        }
+    }
+    events::is_text(doc, part)
 }
 
-// Lists entry i of a container, whose value was read, under a key.
+// Lists what is seen of the entry at a place, without its path: 0, or a refusal's number.
 fn list_entry(
     doc: &[u8],
     out: &mut [u32],
     n: usize,
-    v: View,
-    i: u32,
-    depth: u32,
-    key: Span,
-    r: Read,
-    known: Span,
-) -> Walked
-    requires { ⌜ (r ≡ entryRead (now doc) v i) × (isText (now doc) known ≡ true) ⌝ }
-    ensures { λ w. ⌜ lay (node (valueJudged (now (doc .entry)) (spot depth i (placeAt v i) key (valueStart (now (doc .entry)) v i)) (readSaid r)) (placeAt v i) childless) (now (out .entry)) n ≡ laid w (now (out .exit)) ⌝ }
+    large: bool,
+    start: u32,
+    size: u32,
+    place: usize,
+    room: usize,
+) -> u8
+    requires { ⌜ Last (now doc) (now out) n × (room ≡ roomOf (now out)) ⌝ }
+    ensures { λ r. ⌜ r ≡ seenNumber (now (doc .entry)) (sightAt (now (doc .entry)) large start size place) (now (out .entry)) n ⌝ }
+    ensures { λ r. ⌜ now (out .exit) ≡ seenLeaves r (sightAt (now (doc .entry)) large start size place) (now (out .entry)) n ⌝ }
 {
-    let place = entry::value_place(v, i);
-    match r {
-        Read::Value(x) => list_value(
-            doc,
-            out,
-            n,
-            Spot {
-                depth,
-                position: i,
-                place,
-                key,
-                from: entry::value_start(doc, v, i) as u32,
-            },
-            x,
-            known,
-        ),
-        Read::Refused(number) => Walked::Stopped {
+    let x = sight::sight_at(doc, large, start, size, place);
+    if x.refusal != 0 {
+        return x.refusal;
+    }
+    if !is_seen_text(doc, out, n, x) {
+        return refusal::UTF8;
+    }
+    if room <= n {
+        return refusal::EVENTS;
+    }
+    let part = x.part;
+    let at = 8 * n;
+    out[at] = x.code;
+    out[at + 5] = part.start;
+    out[at + 6] = part.len;
+    out[at + 7] = x.extra;
+    0
+}
+
+// The path of an event whose value was listed.
+fn put_path(out: &mut [u32], n: usize, depth: u32, position: u32, key: Span)
+    requires { ⌜ 8 * n + 8 ≤ length (now out) ⌝ }
+    ensures { λ _. ⌜ now (out .exit) ≡ putPath (now (out .entry)) n depth position key ⌝ }
+{
+    let at = 8 * n;
+    out[at + 1] = depth;
+    out[at + 2] = position;
+    out[at + 3] = key.start;
+    out[at + 4] = key.len;
+}
+
+// What the value of event n leads to.
+fn leads_at(out: &[u32], n: usize) -> Leads
+    requires { ⌜ 8 * n + 8 ≤ length (now out) ⌝ }
+    ensures { λ r. ⌜ r ≡ leadsIn (now (out .entry)) n ⌝ }
+{
+    let at = 8 * n;
+    let code = out[at];
+    if 3 < code {
+        return Leads::Nothing;
+    }
+    leads_by(View {
+        start: out[at + 5],
+        size: out[at + 6],
+        count: out[at + 7],
+        kind: Kind {
+            object: code < 2,
+            large: code % 2 == 1,
+        },
+    })
+}
+
+fn stopped(number: u8, place: usize, count: usize) -> Child
+    ensures { λ r. ⌜ r ≡ stoppedAt number place count ⌝ }
+{
+    Child {
+        own: Walked::Stopped {
             number,
             place,
-            count: n,
+            count,
         },
+        leads: Leads::Nothing,
     }
 }
 
-// The key of entry i: an element of an array has none.
-fn key_of(doc: &[u8], v: View, i: u32) -> Part
-    ensures { λ r. ⌜ r ≡ keyOf (now (doc .entry)) v i ⌝ }
-{
-    let k = v.kind;
-    if k.object {
-        return entry::read_key(doc, v, i);
-    }
-    Part::Bytes(Span { start: 0, len: 0 })
-}
-
-// Lists entry i of a container, whose key and value were read: the key's 5, the key's 9, then the value.
-fn list_by_key(
+// Lists element i of an array, which has no key.
+fn list_element(
     doc: &[u8],
     out: &mut [u32],
     n: usize,
     v: View,
     i: u32,
     depth: u32,
-    p: Part,
-    r: Read,
-    known: Known,
-) -> Walked
-    requires { ⌜ (p ≡ keyOf (now doc) v i) × (r ≡ entryRead (now doc) v i) × Tested (now doc) known ⌝ }
-    ensures { λ w. ⌜ lay (node (judged (now (doc .entry)) depth i (entryStand (now (doc .entry)) v i)) (placeAt v i) childless) (now (out .entry)) n ≡ laid w (now (out .exit)) ⌝ }
-{
-    let place = entry::key_place(v, i);
-    match p {
-        Part::Bytes(key) => {
-            if !is_known_text(doc, known.key, key) {
-                return Walked::Stopped {
-                    number: refusal::UTF8,
-                    place,
-                    count: n,
-                };
-            }
-            list_entry(doc, out, n, v, i, depth, key, r, known.text)
-        }
-        Part::Refused(number) => Walked::Stopped {
-            number,
-            place,
-            count: n,
-        },
-    }
-}
-
-fn key_in(p: Part, known: Span) -> Span
-    ensures { λ r. ⌜ r ≡ keyIn p known ⌝ }
-{
-    match p {
-        Part::Bytes(key) => key,
-        Part::Refused(_) => known,
-    }
-}
-
-fn text_in(r: Read, known: Span) -> Span
-    ensures { λ s. ⌜ s ≡ textIn r known ⌝ }
-{
-    match r {
-        Read::Value(x) => string_of(x, known),
-        Read::Refused(_) => known,
-    }
-}
-
-// Lists entry i of a container. Both walkers call it, so that what it needs is not on their stack, level for level.
-fn list_child(
-    doc: &[u8],
-    out: &mut [u32],
-    n: usize,
-    v: View,
-    i: u32,
-    depth: u32,
-    known: Known,
+    room: usize,
 ) -> Child
-    requires { ⌜ Tested (now doc) known ⌝ }
+    requires { ⌜ (v .kind .object ≡ false) × (Last (now doc) (now out) n × (room ≡ roomOf (now out))) ⌝ }
     ensures { λ c. ⌜ Listed (now (doc .entry)) v i depth (now (out .entry)) n c (now (out .exit)) ⌝ }
 {
-    let p = key_of(doc, v, i);
-    let r = entry::read_entry(doc, v, i);
-    let own = list_by_key(doc, out, n, v, i, depth, p, r, known);
+    let k = as_kind(false, v);
+    let place = v.start as usize + k.value_place(v.count, i);
+    let number = list_entry(doc, out, n, k.large, v.start, v.size, place, room);
+    if number != 0 {
+        return stopped(number, place, n);
+    }
+    put_path(out, n, depth, i, Span { start: 0, len: 0 });
     Child {
-        own,
-        leads: leads_to(r),
-        known: Known {
-            key: key_in(p, known.key),
-            text: text_in(r, known.text),
-        },
+        own: Walked::Done { count: n + 1 },
+        leads: leads_at(out, n),
+    }
+}
+
+// Lists member i of an object: the key's 5, the key's 9, then the value.
+fn list_member(
+    doc: &[u8],
+    out: &mut [u32],
+    n: usize,
+    v: View,
+    i: u32,
+    depth: u32,
+    room: usize,
+) -> Child
+    requires { ⌜ (v .kind .object ≡ true) × (Last (now doc) (now out) n × (room ≡ roomOf (now out))) ⌝ }
+    requires { ⌜ Fit (now doc) v × (i < v .count) ⌝ }
+    ensures { λ c. ⌜ Listed (now (doc .entry)) v i depth (now (out .entry)) n c (now (out .exit)) ⌝ }
+{
+    let k = as_kind(true, v);
+    let key_place = v.start as usize + k.key_place(i);
+    match key_at(doc, v, key_place) {
+        Part::Bytes(key) => {
+            if !is_key(doc, out, n, key) {
+                return stopped(refusal::UTF8, key_place, n);
+            }
+            let place = v.start as usize + k.value_place(v.count, i);
+            let number = list_entry(doc, out, n, k.large, v.start, v.size, place, room);
+            if number != 0 {
+                return stopped(number, place, n);
+            }
+            put_path(out, n, depth, i, key);
+            Child {
+                own: Walked::Done { count: n + 1 },
+                leads: leads_at(out, n),
+            }
+        }
+        Part::Refused(number) => stopped(number, key_place, n),
     }
 }
 
 // Lists the elements of an array.
-fn walk_array(doc: &[u8], out: &mut [u32], from: usize, view: View, levels: u32) -> Walked
+fn walk_array(
+    doc: &[u8],
+    out: &mut [u32],
+    from: usize,
+    view: View,
+    levels: u32,
+    room: usize,
+) -> Walked
     requires { ⌜ (levels ≤ 100) × (view .kind .object ≡ false) ⌝ }
+    requires { ⌜ Fit (now doc) view × (Last (now doc) (now out) from × (room ≡ roomOf (now out))) ⌝ }
     ensures { λ r. ⌜ lay (children levels (now (doc .entry)) (Container view)) (now (out .entry)) from ≡ laid r (now (out .exit)) ⌝ }
+    ensures { λ r. ⌜ Kept (now (doc .entry)) r (now (out .exit)) ⌝ }
 {
     let mut n = from;
     let mut i: u32 = 0;
-    let mut known = Known {
-        key: Span { start: 0, len: 0 },
-        text: Span { start: 0, len: 0 },
-    };
     let count = view.count;
     while i < count {
         if levels == 0 {
@@ -270,21 +313,20 @@ fn walk_array(doc: &[u8], out: &mut [u32], from: usize, view: View, levels: u32)
                 count: n,
             };
         }
-        let c = list_child(doc, out, n, view, i, 101 - levels, known);
+        let c = list_element(doc, out, n, view, i, 101 - levels, room);
         let own = c.own;
         let Walked::Done { count: m } = own else {
             return own;
         };
         let leads = c.leads;
         let w = match leads {
-            Leads::Array(u) => walk_array(doc, out, m, u, levels - 1),
-            Leads::Object(u) => walk_object(doc, out, m, u, levels - 1),
+            Leads::Array(u) => walk_array(doc, out, m, u, levels - 1, room),
+            Leads::Object(u) => walk_object(doc, out, m, u, levels - 1, room),
             Leads::Nothing => Walked::Done { count: m },
         };
         let Walked::Done { count: k } = w else {
             return w;
         };
-        known = c.known;
         n = k;
         i += 1;
     }
@@ -292,16 +334,21 @@ fn walk_array(doc: &[u8], out: &mut [u32], from: usize, view: View, levels: u32)
 }
 
 // Lists the members of an object.
-fn walk_object(doc: &[u8], out: &mut [u32], from: usize, view: View, levels: u32) -> Walked
+fn walk_object(
+    doc: &[u8],
+    out: &mut [u32],
+    from: usize,
+    view: View,
+    levels: u32,
+    room: usize,
+) -> Walked
     requires { ⌜ (levels ≤ 100) × (view .kind .object ≡ true) ⌝ }
+    requires { ⌜ Fit (now doc) view × (Last (now doc) (now out) from × (room ≡ roomOf (now out))) ⌝ }
     ensures { λ r. ⌜ lay (children levels (now (doc .entry)) (Container view)) (now (out .entry)) from ≡ laid r (now (out .exit)) ⌝ }
+    ensures { λ r. ⌜ Kept (now (doc .entry)) r (now (out .exit)) ⌝ }
 {
     let mut n = from;
     let mut i: u32 = 0;
-    let mut known = Known {
-        key: Span { start: 0, len: 0 },
-        text: Span { start: 0, len: 0 },
-    };
     let count = view.count;
     while i < count {
         if levels == 0 {
@@ -311,76 +358,38 @@ fn walk_object(doc: &[u8], out: &mut [u32], from: usize, view: View, levels: u32
                 count: n,
             };
         }
-        let c = list_child(doc, out, n, view, i, 101 - levels, known);
+        let c = list_member(doc, out, n, view, i, 101 - levels, room);
         let own = c.own;
         let Walked::Done { count: m } = own else {
             return own;
         };
         let leads = c.leads;
         let w = match leads {
-            Leads::Array(u) => walk_array(doc, out, m, u, levels - 1),
-            Leads::Object(u) => walk_object(doc, out, m, u, levels - 1),
+            Leads::Array(u) => walk_array(doc, out, m, u, levels - 1, room),
+            Leads::Object(u) => walk_object(doc, out, m, u, levels - 1, room),
             Leads::Nothing => Walked::Done { count: m },
         };
         let Walked::Done { count: k } = w else {
             return w;
         };
-        known = c.known;
         n = k;
         i += 1;
     }
     Walked::Done { count: n }
 }
 
-fn root_start(doc: &[u8]) -> u32
-    ensures { λ r. ⌜ r ≡ rootStand (now (doc .entry)) .from ⌝ }
-{
-    if doc.len() == 0 {
-        return 0;
-    }
-    1
-}
-
-// Lists the root.
-fn list_root(doc: &[u8], out: &mut [u32], r: Read) -> Walked
-    requires { ⌜ r ≡ rootRead (now doc) ⌝ }
-    ensures { λ w. ⌜ lay (node (judged (now (doc .entry)) 0 0 (rootStand (now (doc .entry)))) 0 childless) (now (out .entry)) 0 ≡ laid w (now (out .exit)) ⌝ }
-{
-    match r {
-        Read::Value(x) => list_value(
-            doc,
-            out,
-            0,
-            Spot {
-                depth: 0,
-                position: 0,
-                place: 0,
-                key: Span { start: 0, len: 0 },
-                from: root_start(doc),
-            },
-            x,
-            Span { start: 0, len: 0 },
-        ),
-        Read::Refused(number) => Walked::Stopped {
-            number,
-            place: 0,
-            count: 0,
-        },
-    }
-}
-
 // Lists every path of the document, as far as there is room: a number of eight lent numbers each.
 pub fn walk(doc: &[u8], out: &mut [u32]) -> Walked
     ensures { λ r. ⌜ Walks (now (doc .entry)) (now (out .entry)) r (now (out .exit)) ⌝ }
 {
-    let r = jsonb::deserialize(doc);
-    let own = list_root(doc, out, r);
+    let own = root::list_root(doc, out);
     let Walked::Done { count: m } = own else {
         return own;
     };
-    match leads_to(r) {
-        Leads::Array(u) => walk_array(doc, out, m, u, 100),
-        Leads::Object(u) => walk_object(doc, out, m, u, 100),
+    let room = events::room_in(out);
+    match leads_at(out, 0) {
+        Leads::Array(u) => walk_array(doc, out, m, u, 100, room),
+        Leads::Object(u) => walk_object(doc, out, m, u, 100, room),
         Leads::Nothing => own,
     }
 }

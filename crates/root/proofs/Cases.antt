@@ -1,0 +1,77 @@
+-- Cases of the definitions by the tests that lead to them, with what callees gave as variables of their own.
+-- Assumes nothing.
+use mathlib.Core.Path.{_≡_, refl, sym, ap, _∙_}
+use mathlib.Core.Bool.{Bool, true, false, cond}
+use mathlib.Core.List.{List}
+use Prim.Native.Nat.{ℕ}
+use native.Mathlib.Omega.{arith}
+use lib.ListN.{length}
+use borrow.Author.Tests.{le-ltb, eq-eqb, ne-eqb}
+use Rattle.layout.proofs.Cond.{yes, no}
+use Rattle.utf8.specs.Course.{run}
+use Rattle.value.specs.declared.Span.{Span}
+use Rattle.value.specs.declared.Scalar.{Scalar}
+use Rattle.value.specs.declared.Scalar.the-variants as scalar
+use Rattle.value.specs.declared.Value.{Value}
+use Rattle.value.specs.declared.Value.the-variants as value
+use Rattle.content.specs.declared.Read.{Read}
+use Rattle.content.specs.declared.Read.the-variants as read
+use Rattle.jsonb.specs.Views.{rootRead}
+use Rattle.events.specs.declared.Spot.{Spot}
+use Rattle.events.specs.declared.Walked.the-variants.{Stopped}
+use Rattle.events.specs.Events.{noKey, eventOf}
+use Rattle.events.specs.Text.{isText, isTextual}
+use Rattle.events.specs.Listing.{end, fault, event}
+use Rattle.events.specs.Lay.{Laid, laid, lay}
+use Rattle.root.specs.Root.{stringOf, firstByte, spotOf, valueNode, readNode, rootNode}
+
+module _ (d : List ℕ) where
+  pub empty-first : length d ≡ 0 → 0 ≡ firstByte d
+  unfolding firstByte
+  empty-first e = yes _ (eq-eqb (length d) 0 e) refl
+
+  pub some-first : (length d ≡ 0 → ⊥) → 1 ≡ firstByte d
+  unfolding firstByte
+  some-first e = no _ (ne-eqb (length d) 0 e) refl
+
+  -- no bytes are text, so that a value's own string tells
+  pub no-key-text : isText d noKey ≡ true
+  unfolding isText run
+  no-key-text = sym (no _ (le-ltb (length d) 0 (omega arith)) refl)
+
+  string-text : (x : Value) → isText d (stringOf x) ≡ isTextual d x
+  string-text (value.Scalar y scalar.Null) = no-key-text
+  string-text (value.Scalar y (scalar.Boolean b)) = no-key-text
+  string-text (value.Scalar y (scalar.Number n)) = no-key-text
+  string-text (value.Scalar y (scalar.String s)) = refl
+  string-text (value.Scalar y (scalar.Opaque c s)) = no-key-text
+  string-text (value.Container v) = no-key-text
+
+  -- its string s, whether that is text, b, and its first byte f, as callees give them
+  module _ (x : Value) (out : List ℕ) {s : Span} (se : s ≡ stringOf x) {b : Bool} (be : b ≡ isText d s) where
+    textual : {c : Bool} → b ≡ c → isTextual d x ≡ c
+    textual e = sym (string-text x) ∙ ap (isText d) (sym se) ∙ sym be ∙ e
+
+    abbrev by : Bool → Laid
+    by c = lay (cond c (event (eventOf (spotOf d) x) 0 end) (fault 9 0)) out 0
+
+    pub value-no-text : b ≡ false → lay (valueNode d x) out 0 ≡ laid (Stopped 9 0 0) out
+    unfolding valueNode lay
+    value-no-text e = ap by (textual e)
+
+    abbrev from : ℕ → Spot
+    from f = record { depth = 0; position = 0; place = 0; key = noKey; from = f }
+
+    pub value-listed : {f : ℕ} {l : Laid} → b ≡ true → f ≡ firstByte d → lay (event (eventOf (from f) x) 0 end) out 0 ≡ l → lay (valueNode d x) out 0 ≡ l
+    unfolding valueNode
+    value-listed e fe a = ap by (textual e) ∙ ap (λ (f : ℕ). lay (event (eventOf (from f) x) 0 end) out 0) (sym fe) ∙ a
+
+  -- the root r as the callee gives it
+  module _ (out : List ℕ) {r : Read} (re : r ≡ rootRead d) where
+    pub root-value : {x : Value} {l : Laid} → r ≡ read.Value x → lay (valueNode d x) out 0 ≡ l → lay (rootNode d) out 0 ≡ l
+    unfolding rootNode
+    root-value rx a = ap (λ (y : Read). lay (readNode d y) out 0) (sym re ∙ rx) ∙ a
+
+    pub root-refused : {m : ℕ} → r ≡ read.Refused m → lay (rootNode d) out 0 ≡ laid (Stopped m 0 0) out
+    unfolding rootNode lay
+    root-refused rm = ap (λ (y : Read). lay (readNode d y) out 0) (sym re ∙ rm)

@@ -1,0 +1,46 @@
+-- The test is the definition's: a string that is no text is 9, and any other value is put down.
+-- Assumes nothing.
+use borrow.Author.Tests.{not-true, not-false}
+use Rattle.root.proofs.Cases.{value-no-text, value-listed}
+use borrow.Author.Needs.{needs}
+use Rattle.root.proofs.list_value.Statement.{statement}
+use Rattle.root.proofs.list_value.Tie as tie
+use Rattle.root.proofs.list_value.Reads as reads
+use Rattle.root.proofs.list_value.Lts as lts
+use Rattle.events.proofs.is_text.Reads as is-text-reads
+use Rattle.events.proofs.put_value.Reads as put-value-reads
+use Rattle.root.proofs.first_byte.Reads as first-byte-reads
+use Rattle.root.proofs.string_of.Reads as string-of-reads
+
+string-of-requires : tie.Need-string-of-requires
+string-of-requires c κs = search needs
+
+is-text-requires : tie.Need-is-text-requires
+is-text-requires c κs = search needs
+
+returns : tie.Need-returns
+returns c = value-no-text _ (c .before .before .before .before .before .args .x) _ (c .before .before .string-of .ensures) (c .before .is-text .ensures) (not-true _ (c .if1 .taken))
+
+first-byte-requires : tie.Need-first-byte-requires
+first-byte-requires c κs = search needs
+
+put-value-requires : tie.Need-put-value-requires
+put-value-requires c κs = search needs
+
+same-length : tie.Need-same-length
+same-length c = search needs
+
+returns-2 : tie.Need-returns-2
+returns-2 c = value-listed _ (c .before .before .before .before .before .before .before .before .before .before .args .x) _ (c .before .before .before .before .before .before .before .string-of .ensures) (c .before .before .before .before .before .before .is-text .ensures) (not-false _ (c .before .before .before .before .before .if1 .left)) (c .before .before .before .first-byte .ensures) (c .before .before .put-value .ensures)
+
+pub list-value-spec : {M : Type 1} → statement M
+list-value-spec =
+    tie.close
+    (tie.spec
+    string-of-requires
+    is-text-requires
+    returns
+    first-byte-requires
+    put-value-requires
+    same-length
+    returns-2)

@@ -1,0 +1,48 @@
+-- The root's own path (document 01, 'The walk'): it has no key, its depth, position and place are 0, and its value starts past the document's type byte; the
+-- empty document has none, and its null starts at 0. It is listed, or refused by what its value is refused with, or by 9 where it is a string that is no text.
+-- Assumes nothing.
+use Prim.Native.Nat.{ℕ}
+use mathlib.Core.Bool.{cond}
+use mathlib.Core.List.{List}
+use lib.Dec.{eqb}
+use lib.ListN.{length}
+use Rattle.value.specs.declared.Span.{Span}
+use Rattle.value.specs.declared.Scalar.{Scalar}
+use Rattle.value.specs.declared.Scalar.the-variants as scalar
+use Rattle.value.specs.declared.Value.{Value}
+use Rattle.value.specs.declared.Value.the-variants as value
+use Rattle.content.specs.declared.Read.{Read}
+use Rattle.content.specs.declared.Read.the-variants as read
+use Rattle.jsonb.specs.Views.{rootRead}
+use Rattle.events.specs.declared.Spot.{Spot}
+use Rattle.events.specs.Events.{noKey, eventOf}
+use Rattle.events.specs.Text.{isTextual}
+use Rattle.events.specs.Listing.{Listing, end, fault, event}
+
+-- the string that a value is; of any other value, no bytes
+abbrev pub stringIn : Scalar → Span
+stringIn scalar.Null = noKey
+stringIn (scalar.Boolean b) = noKey
+stringIn (scalar.Number x) = noKey
+stringIn (scalar.String s) = s
+stringIn (scalar.Opaque c s) = noKey
+
+abbrev pub stringOf : Value → Span
+stringOf (value.Scalar t s) = stringIn s
+stringOf (value.Container v) = noKey
+
+unfoldable pub firstByte : List ℕ → ℕ
+firstByte d = cond (eqb (length d) 0) 0 1
+
+abbrev pub spotOf : List ℕ → Spot
+spotOf d = record { depth = 0; position = 0; place = 0; key = noKey; from = firstByte d }
+
+unfoldable pub valueNode : List ℕ → Value → Listing
+valueNode d x = cond (isTextual d x) (event (eventOf (spotOf d) x) 0 end) (fault 9 0)
+
+abbrev pub readNode : List ℕ → Read → Listing
+readNode d (read.Value x) = valueNode d x
+readNode d (read.Refused n) = fault n 0
+
+unfoldable pub rootNode : List ℕ → Listing
+rootNode d = readNode d (rootRead d)

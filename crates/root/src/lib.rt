@@ -1,0 +1,81 @@
+// The root of a document as the first event of a list.
+use content::Read;
+use events::Spot;
+use events::Walked;
+use value::Scalar;
+use value::Span;
+use value::Value;
+ghost use mathlib.Core.Path.{_≡_};
+ghost use Rattle.events.specs.Lay.{lay, laid};
+ghost use Rattle.root.specs.Root.{stringIn, stringOf, firstByte, spotOf, valueNode, readNode, rootNode};
+
+// The string of a scalar; of another, no bytes.
+fn string_in(s: Scalar) -> Span
+    ensures { λ r. ⌜ r ≡ stringIn s ⌝ }
+{
+    match s {
+        Scalar::Null => Span { start: 0, len: 0 },
+        Scalar::Boolean(_) => Span { start: 0, len: 0 },
+        Scalar::Number(_) => Span { start: 0, len: 0 },
+        Scalar::String(p) => p,
+        Scalar::Opaque(_, _) => Span { start: 0, len: 0 },
+    }
+}
+
+fn string_of(x: Value) -> Span
+    ensures { λ r. ⌜ r ≡ stringOf x ⌝ }
+{
+    match x {
+        Value::Scalar(_, s) => string_in(s),
+        Value::Container(_) => Span { start: 0, len: 0 },
+    }
+}
+
+// Where the root's value starts: past its type byte, which the empty document has not.
+fn first_byte(doc: &[u8]) -> u32
+    ensures { λ r. ⌜ r ≡ firstByte (now (doc .entry)) ⌝ }
+{
+    if doc.len() == 0 {
+        return 0;
+    }
+    1
+}
+
+// Lists the root's value: 9 for a string that is no text, then 12 where there is no room.
+fn list_value(doc: &[u8], out: &mut [u32], x: Value) -> Walked
+    ensures { λ w. ⌜ lay (valueNode (now (doc .entry)) x) (now (out .entry)) 0 ≡ laid w (now (out .exit)) ⌝ }
+{
+    if !events::is_text(doc, string_of(x)) {
+        return Walked::Stopped {
+            number: refusal::UTF8,
+            place: 0,
+            count: 0,
+        };
+    }
+    events::put_value(
+        out,
+        0,
+        Spot {
+            depth: 0,
+            position: 0,
+            place: 0,
+            key: Span { start: 0, len: 0 },
+            from: first_byte(doc),
+        },
+        x,
+    )
+}
+
+// Lists the root.
+pub fn list_root(doc: &[u8], out: &mut [u32]) -> Walked
+    ensures { λ w. ⌜ lay (rootNode (now (doc .entry))) (now (out .entry)) 0 ≡ laid w (now (out .exit)) ⌝ }
+{
+    match jsonb::deserialize(doc) {
+        Read::Value(x) => list_value(doc, out, x),
+        Read::Refused(number) => Walked::Stopped {
+            number,
+            place: 0,
+            count: 0,
+        },
+    }
+}

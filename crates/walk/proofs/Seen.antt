@@ -1,0 +1,317 @@
+-- An event that is laid down in two parts is the event, and what it says is read back.
+--     put-parts                what is seen and then the path is the event
+--     put-code and others      the numbers of an event that was put down
+--     seen-text                what is seen of a value is text exactly when the value is
+--     seen-stopped, seen-done  a value that was judged by what is seen of it: not listed, or listed
+--     seen-leads               what the event's value leads to
+--     seen-last                such an event was tested
+-- Assumes nothing.
+use mathlib.Core.Path.{_≡_, refl, sym, ap, subst, _∙_}
+use mathlib.Core.Logic.{_≢_}
+use mathlib.Core.Bool.{Bool, true, false, cond}
+use mathlib.Core.List.{List, [], _∷_}
+use Prim.Native.Nat.{ℕ, suc, _+_, _*_, _-_, _%_, _≤_, _<_}
+use native.Mathlib.Omega.{arith}
+use lib.Dec.{ltb, eqb}
+use lib.ListN.{length, getD, set, length-set}
+use lib.Seq.{sets, length-sets, getD-set-same, getD-set-other, set-comm}
+use borrow.Author.Tests.{le-ltb, lt-ltb, ltb-true, ltb-false, eqb-true, eq-eqb, ne-eqb}
+use Rattle.layout.specs.declared.Kind.{Kind}
+use Rattle.layout.proofs.Cond.{yes, no}
+use Rattle.codes.specs.Types.{codeOf as typeCode}
+use Rattle.value.specs.declared.Span.{Span}
+use Rattle.value.specs.declared.View.{View}
+use Rattle.value.specs.declared.Scalar.{Scalar}
+use Rattle.value.specs.declared.Value.{Value}
+use Rattle.value.specs.declared.Value.the-variants as value
+use Rattle.content.specs.declared.Read.{Read}
+use Rattle.content.specs.declared.Read.the-variants as read
+use Rattle.gate.specs.Said.{readSaid}
+use Rattle.events.specs.declared.Event.{Event}
+use Rattle.events.specs.declared.Walked.the-variants.{Done, Stopped}
+use Rattle.events.specs.Events.{span, numbers, wide, kindCode, codeOf, partOf, extraOf, eventOf}
+use Rattle.events.specs.Text.{isText, isTextual}
+use Rattle.events.specs.Lay.{Laid, laid, lay, put, room}
+use Rattle.events.proofs.Cases.{run-of-stores}
+use Rattle.sight.specs.declared.Sight.{Sight}
+use Rattle.sight.specs.Sights.{sightOf}
+use Rattle.sight.specs.Course.{Sound, SoundValue}
+use Rattle.walk.specs.Judged.{bad, good, spot, valueJudged, node, childless}
+use Rattle.walk.specs.Course.{leadsBy, leadsOf, leadsTo}
+use Rattle.walk.specs.Tested.{Last}
+use Rattle.walk.specs.Seen.{seenText, seenNumber, seenEvent, putSeen, putPath, seenLeaves, leadsIn}
+use Rattle.walk.specs.declared.Leads.{Leads}
+use Rattle.walk.specs.declared.Leads.the-variants.{Array, Object, Nothing}
+use Rattle.walk.proofs.Laid.{room-fits}
+
+-- ---- an event in two parts
+-- a store goes before three others
+past-three : (l : List ℕ) (i j k m a b c v : ℕ) → i ≢ m → j ≢ m → k ≢ m →
+    set (set (set (set l i a) j b) k c) m v ≡ set (set (set (set l m v) i a) j b) k c
+past-three l i j k m a b c v p q r =
+    set-comm (set (set l i a) j b) k m c v r
+    ∙ ap (λ (x : List ℕ). set x k c) (set-comm (set l i a) j m b v q ∙ ap (λ (x : List ℕ). set x j b) (set-comm l i m a v p))
+
+module _ (out : List ℕ) (a c s l x d i k m : ℕ) where
+  -- the stores of the value, over a list
+  abbrev seen : List ℕ → List ℕ
+  seen y = set (set (set y (a + 5) s) (a + 6) l) (a + 7) x
+
+  under : (y : List ℕ) (j v : ℕ) → j < a + 5 → set (seen y) j v ≡ seen (set y j v)
+  under y j v h = past-three y (a + 5) (a + 6) (a + 7) j s l x v (λ e. omega arith) (λ e. omega arith) (λ e. omega arith)
+
+  abbrev first : List ℕ
+  first = set out a c
+
+  parts : set (set (set (set (seen first) (a + 1) d) (a + 2) i) (a + 3) k) (a + 4) m ≡
+      seen (set (set (set (set first (a + 1) d) (a + 2) i) (a + 3) k) (a + 4) m)
+  parts =
+      ap (λ (y : List ℕ). set (set (set y (a + 2) i) (a + 3) k) (a + 4) m) (under first (a + 1) d (omega arith))
+      ∙ ap (λ (y : List ℕ). set (set y (a + 3) k) (a + 4) m) (under (set first (a + 1) d) (a + 2) i (omega arith))
+      ∙ ap (λ (y : List ℕ). set y (a + 4) m) (under (set (set first (a + 1) d) (a + 2) i) (a + 3) k (omega arith))
+      ∙ under (set (set (set first (a + 1) d) (a + 2) i) (a + 3) k) (a + 4) m (omega arith)
+
+pub put-parts : (out : List ℕ) (n depth i : ℕ) (k : Span) (x : Sight) → putPath (putSeen out n x) n depth i k ≡ put out n (seenEvent depth i k x)
+unfolding putPath putSeen put
+put-parts out n depth i k x =
+    parts out (8 * n) (x .code) (x .part .start) (x .part .len) (x .extra) depth i (k .start) (k .len)
+    ∙ run-of-stores out (8 * n) (x .code) (depth ∷ i ∷ k .start ∷ k .len ∷ x .part .start ∷ x .part .len ∷ x .extra ∷ [])
+
+-- ---- the numbers of an event that was put down, of which there is room for
+module _ (out : List ℕ) (n : ℕ) (e : Event) (h : 8 * n + 8 ≤ length out) where
+  -- a store at another place changes nothing here
+  other : (l : List ℕ) (i j a : ℕ) → (j ≡ i → ⊥) → getD (set l i a) j 0 ≡ getD l j 0
+  other l i j a q = getD-set-other l i j a 0 q
+
+  -- the stores before the one at k, and those after it
+  abbrev at : ℕ → ℕ
+  at k = 8 * n + k
+
+  abbrev upto0 : List ℕ
+  upto0 = set out (8 * n) (e .code)
+
+  abbrev upto1 : List ℕ
+  upto1 = set upto0 (at 1) (e .depth)
+
+  abbrev upto2 : List ℕ
+  upto2 = set upto1 (at 2) (e .position)
+
+  abbrev upto3 : List ℕ
+  upto3 = set upto2 (at 3) (e .key .start)
+
+  abbrev upto4 : List ℕ
+  upto4 = set upto3 (at 4) (e .key .len)
+
+  abbrev upto5 : List ℕ
+  upto5 = set upto4 (at 5) (e .part .start)
+
+  abbrev upto6 : List ℕ
+  upto6 = set upto5 (at 6) (e .part .len)
+
+  abbrev upto7 : List ℕ
+  upto7 = set upto6 (at 7) (e .extra)
+
+  put-is : put out n e ≡ upto7
+  unfolding put
+  put-is = sym (run-of-stores out (8 * n) (e .code) (e .depth ∷ e .position ∷ e .key .start ∷ e .key .len ∷ e .part .start ∷ e .part .len ∷ e .extra ∷ []))
+
+  put-at : (k : ℕ) {x : ℕ} → getD upto7 k 0 ≡ x → getD (put out n e) k 0 ≡ x
+  put-at k q = ap (λ (l : List ℕ). getD l k 0) put-is ∙ q
+
+  pub put-extra : getD (put out n e) (8 * n + 7) 0 ≡ e .extra
+  put-extra = put-at (at 7) (getD-set-same upto6 (at 7) (e .extra) 0 (simp length-set (omega arith)))
+
+  pub put-len : getD (put out n e) (8 * n + 6) 0 ≡ e .part .len
+  put-len =
+      put-at (at 6) (other upto6 (at 7) (at 6) (e .extra) (λ q. omega arith)
+      ∙ getD-set-same upto5 (at 6) (e .part .len) 0 (simp length-set (omega arith)))
+
+  pub put-start : getD (put out n e) (8 * n + 5) 0 ≡ e .part .start
+  put-start =
+      put-at (at 5) (other upto6 (at 7) (at 5) (e .extra) (λ q. omega arith)
+      ∙ other upto5 (at 6) (at 5) (e .part .len) (λ q. omega arith)
+      ∙ getD-set-same upto4 (at 5) (e .part .start) 0 (simp length-set (omega arith)))
+
+  pub put-key-len : getD (put out n e) (8 * n + 4) 0 ≡ e .key .len
+  put-key-len =
+      put-at (at 4) (other upto6 (at 7) (at 4) (e .extra) (λ q. omega arith)
+      ∙ other upto5 (at 6) (at 4) (e .part .len) (λ q. omega arith)
+      ∙ other upto4 (at 5) (at 4) (e .part .start) (λ q. omega arith)
+      ∙ getD-set-same upto3 (at 4) (e .key .len) 0 (simp length-set (omega arith)))
+
+  pub put-key-start : getD (put out n e) (8 * n + 3) 0 ≡ e .key .start
+  put-key-start =
+      put-at (at 3) (other upto6 (at 7) (at 3) (e .extra) (λ q. omega arith)
+      ∙ other upto5 (at 6) (at 3) (e .part .len) (λ q. omega arith)
+      ∙ other upto4 (at 5) (at 3) (e .part .start) (λ q. omega arith)
+      ∙ other upto3 (at 4) (at 3) (e .key .len) (λ q. omega arith)
+      ∙ getD-set-same upto2 (at 3) (e .key .start) 0 (simp length-set (omega arith)))
+
+  pub put-code : getD (put out n e) (8 * n) 0 ≡ e .code
+  put-code =
+      put-at (8 * n) (other upto6 (at 7) (8 * n) (e .extra) (λ q. omega arith)
+      ∙ other upto5 (at 6) (8 * n) (e .part .len) (λ q. omega arith)
+      ∙ other upto4 (at 5) (8 * n) (e .part .start) (λ q. omega arith)
+      ∙ other upto3 (at 4) (8 * n) (e .key .len) (λ q. omega arith)
+      ∙ other upto2 (at 3) (8 * n) (e .key .start) (λ q. omega arith)
+      ∙ other upto1 (at 2) (8 * n) (e .position) (λ q. omega arith)
+      ∙ other upto0 (at 1) (8 * n) (e .depth) (λ q. omega arith)
+      ∙ getD-set-same out (8 * n) (e .code) 0 (omega arith))
+
+-- ---- what is seen of a value is text exactly when the value is
+no-string : (k : Kind) → eqb (kindCode k) 12 ≡ false
+unfolding kindCode
+no-string k = go (k .object) (k .large)
+  where
+    go : (a b : Bool) → eqb (cond a (cond b 1 0) (cond b 3 2)) 12 ≡ false
+    go true true = refl
+    go true false = refl
+    go false true = refl
+    go false false = refl
+
+seen-value : (d : List ℕ) (from : ℕ) (x : Value) → SoundValue x → seenText d (sightOf (read.Value x) from) ≡ isTextual d x
+unfolding seenText
+seen-value d from (value.Scalar t s) h = h .1 d from
+seen-value d from (value.Container v) h = ap (λ (b : Bool). cond b (isText d (span (v .start) (v .size))) true) (no-string (v .kind))
+
+-- ---- a value that was read and is judged by what is seen of it; f is the number as the callee gives it
+module _ (d out : List ℕ) (n depth i p from : ℕ) (k : Span) where
+  abbrev judgedAs : Read → Laid
+  judgedAs r = lay (node (valueJudged d (spot depth i p k from) (readSaid r)) p childless) out n
+
+  abbrev by : Value → Bool → Bool → Laid
+  by x text fits =
+      cond text (cond fits (laid (Done (n + 1)) (put out n (eventOf (spot depth i p k from) x))) (laid (Stopped 12 p n) out)) (laid (Stopped 9 p n) out)
+
+  value-by : (x : Value) → judgedAs (read.Value x) ≡ by x (isTextual d x) (ltb n (room out))
+  unfolding lay
+  value-by x = go (isTextual d x)
+    where
+      go : (b : Bool) → lay (node (cond b (good (eventOf (spot depth i p k from) x) x) (bad 9 p)) p childless) out n ≡ by x b (ltb n (room out))
+      go true = refl
+      go false = refl
+
+  abbrev numberBy : Bool → Bool → ℕ
+  numberBy text fits = cond text (cond fits 0 12) 9
+
+  number-by : (x : Value) → SoundValue x → seenNumber d (sightOf (read.Value x) from) out n ≡ numberBy (isTextual d x) (ltb n (room out))
+  unfolding seenNumber
+  number-by x h = ap (λ (b : Bool). numberBy b (ltb n (room out))) (seen-value d from x h)
+
+  number-refused : (m : ℕ) → (m ≡ 0 → ⊥) → seenNumber d (sightOf (read.Refused m) from) out n ≡ m
+  unfolding seenNumber
+  number-refused m h = ap (λ (b : Bool). cond b (cond (seenText d (sightOf (read.Refused m) from)) (cond (ltb n (room out)) 0 12) 9) m) (ne-eqb m 0 h)
+
+  -- not listed
+  pub seen-stopped : (r : Read) → Sound r → {f : ℕ} → f ≡ seenNumber d (sightOf r from) out n → (f ≡ 0 → ⊥) → judgedAs r ≡ laid (Stopped f p n) out
+  unfolding lay
+  seen-stopped (read.Value x) h {f} fe z = value-by x ∙ go (isTextual d x) (ltb n (room out)) (fe ∙ number-by x h)
+    where
+      go : (a b : Bool) → f ≡ numberBy a b → by x a b ≡ laid (Stopped f p n) out
+      go true true e = absurd (z e)
+      go true false e = ap (λ (g : ℕ). laid (Stopped g p n) out) (sym e)
+      go false b e = ap (λ (g : ℕ). laid (Stopped g p n) out) (sym e)
+  seen-stopped (read.Refused m) h {f} fe z = ap (λ (g : ℕ). laid (Stopped g p n) out) (sym (fe ∙ number-refused m h))
+
+  -- listed: there was room, and the value is text
+  pub record Seen (r : Read) : Type 0 where
+    pub value : Value
+    pub read : r ≡ read.Value value
+    pub text : isTextual d value ≡ true
+    pub fits : n < room out
+    pub listed : judgedAs r ≡ laid (Done (n + 1)) (put out n (seenEvent depth i k (sightOf r from)))
+
+  pub seen-done : (r : Read) → Sound r → {f : ℕ} → f ≡ seenNumber d (sightOf r from) out n → f ≡ 0 → Seen r
+  seen-done (read.Value x) h {f} fe z = go (isTextual d x) (ltb n (room out)) refl refl (sym z ∙ fe ∙ number-by x h)
+    where
+      go : (a b : Bool) → isTextual d x ≡ a → ltb n (room out) ≡ b → _≡_ {A = ℕ} 0 (numberBy a b) → Seen (read.Value x)
+      go true true t u e =
+          record {
+            value = x;
+            read = refl;
+            text = t;
+            fits = ltb-true n (room out) u;
+            listed = value-by x ∙ ap (λ (c : Bool). by x c (ltb n (room out))) t ∙ ap (by x true) u;
+          }
+      go true false t u e = absurd (omega arith)
+      go false b t u e = absurd (omega arith)
+  seen-done (read.Refused m) h {f} fe z = absurd (h (sym (number-refused m h) ∙ sym fe ∙ z))
+
+-- ---- what an event that was put down leads to
+-- by its numbers
+abbrev leadsFrom : ℕ → ℕ → ℕ → ℕ → Leads
+leadsFrom c s l x = cond (ltb 3 c) Nothing (leadsBy (record { start = s; size = l; count = x; kind = record { object = ltb c 2; large = eqb (c % 2) 1 } }) (ltb c 2))
+
+container-leads : (v : View) → leadsFrom (kindCode (v .kind)) (v .start) (v .size) (v .count) ≡ leadsBy v (v .kind .object)
+unfolding kindCode
+container-leads v = go (v .kind .object) (v .kind .large)
+  where
+    go : (a b : Bool) → leadsFrom (cond a (cond b 1 0) (cond b 3 2)) (v .start) (v .size) (v .count) ≡ leadsBy (record { start = v .start; size = v .size; count = v .count; kind = record { object = a; large = b } }) a
+    go true true = refl
+    go true false = refl
+    go false true = refl
+    go false false = refl
+
+value-leads : (x : Value) (from : ℕ) → SoundValue x → leadsFrom (codeOf x) (partOf x from .start) (partOf x from .len) (extraOf x) ≡ leadsOf x
+value-leads (value.Scalar t s) from h = sym (yes _ (lt-ltb 3 (typeCode t) (h .0)) refl)
+value-leads (value.Container v) from h = container-leads v
+
+-- it is read back
+pub seen-leads : (d out : List ℕ) (n depth i from : ℕ) (k : Span) (r : Read) → Sound r → {x : Value} → r ≡ read.Value x → 8 * n + 8 ≤ length out →
+    leadsIn (put out n (seenEvent depth i k (sightOf r from))) n ≡ leadsTo r
+unfolding leadsIn
+seen-leads d out n depth i from k (read.Value x) h e f =
+    let v = seenEvent depth i k (sightOf (read.Value x) from) in
+    let o = put out n v in
+    ap (λ (c : ℕ). leadsFrom c (getD o (8 * n + 5) 0) (getD o (8 * n + 6) 0) (getD o (8 * n + 7) 0)) (put-code out n v f)
+    ∙ ap (λ (s : ℕ). leadsFrom (codeOf x) s (getD o (8 * n + 6) 0) (getD o (8 * n + 7) 0)) (put-start out n v f)
+    ∙ ap (λ (l : ℕ). leadsFrom (codeOf x) (partOf x from .start) l (getD o (8 * n + 7) 0)) (put-len out n v f)
+    ∙ ap (λ (m : ℕ). leadsFrom (codeOf x) (partOf x from .start) (partOf x from .len) m) (put-extra out n v f)
+    ∙ value-leads x from h
+seen-leads d out n depth i from k (read.Refused m) h {x} e f = let z : _≡_ {A = ℕ} 0 1 = cc in absurd (omega arith)
+
+-- ---- such an event was tested
+put-length : (out : List ℕ) (n : ℕ) (e : Event) → length (put out n e) ≡ length out
+unfolding put
+put-length out n e = length-sets out (wide * n) (numbers e)
+
+module _ (d out : List ℕ) (n depth i from : ℕ) (k : Span) (x : Value) (h : SoundValue x) (t : isTextual d x ≡ true) (kt : isText d k ≡ true) (f : 8 * n + 8 ≤ length out) where
+  abbrev e : Event
+  e = seenEvent depth i k (sightOf (read.Value x) from)
+
+  abbrev o : List ℕ
+  o = put out n e
+
+  there : 8 * (n + 1) - 8 ≡ 8 * n
+  there = omega arith
+
+  key-text : isText d (span (getD o (8 * n + 3) 0) (getD o (8 * n + 4) 0)) ≡ true
+  key-text =
+      ap (λ (a : ℕ). isText d (span a (getD o (8 * n + 4) 0))) (put-key-start out n e f)
+      ∙ ap (λ (a : ℕ). isText d (span (k .start) a)) (put-key-len out n e f)
+      ∙ kt
+
+  -- a value that is text and has the code of strings is a string that is text
+  value-text : getD o (8 * n) 0 ≡ 12 → isText d (span (getD o (8 * n + 5) 0) (getD o (8 * n + 6) 0)) ≡ true
+  unfolding seenText
+  value-text q =
+      ap (λ (a : ℕ). isText d (span a (getD o (8 * n + 6) 0))) (put-start out n e f)
+      ∙ ap (λ (a : ℕ). isText d (span (partOf x from .start) a)) (put-len out n e f)
+      ∙ yes _ (eq-eqb (codeOf x) 12 (sym (put-code out n e f) ∙ q)) refl
+      ∙ seen-value d from x h
+      ∙ t
+
+  last-value : Last d o (n + 1)
+  last-value =
+      record {
+        some = omega arith;
+        room = omega (arith, put-length out n e);
+        key = ap (λ (a : ℕ). isText d (span (getD o (a + 3) 0) (getD o (a + 4) 0))) there ∙ key-text;
+        text = λ q. ap (λ (a : ℕ). isText d (span (getD o (a + 5) 0) (getD o (a + 6) 0))) there ∙ value-text (ap (λ (a : ℕ). getD o a 0) (sym there) ∙ q);
+      }
+
+pub seen-last : (d out : List ℕ) (n depth i from : ℕ) (k : Span) (r : Read) → Sound r → {x : Value} → r ≡ read.Value x → isTextual d x ≡ true → isText d k ≡ true →
+    8 * n + 8 ≤ length out → Last d (put out n (seenEvent depth i k (sightOf r from))) (n + 1)
+seen-last d out n depth i from k r h {x} re t kt f =
+    subst (λ (y : Read). Last d (put out n (seenEvent depth i k (sightOf y from))) (n + 1)) (sym re)
+    (last-value d out n depth i from k x (subst Sound re h) t kt f)
