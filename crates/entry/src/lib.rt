@@ -14,7 +14,7 @@ ghost use Rattle.content.specs.Course.{Within};
 ghost use Rattle.entry.specs.Entries.{endOf, isInlined, placeAt, pointedAt, typedEntry, entryOf, keyOf, keyPlaceAt, entryRead, keyRead, startOf, valueStart};
 
 // Whether values of a type stand in their entry.
-pub fn is_inlined(t: JsonbType, large: bool) -> bool
+fn is_inlined(t: JsonbType, large: bool) -> bool
     ensures { λ r. ⌜ r ≡ isInlined t large ⌝ }
 {
     match t {

@@ -42,16 +42,15 @@ use Rattle.content.proofs.Placed.{placed-fault, placed-right, placed-within, ri
 use Rattle.entry.specs.Entries.{endOf, isInlined, pointedAt, typedEntry}
 use Rattle.events.specs.Events.{span, kindCode, bytesOf}
 use Rattle.events.proofs.Cases.{bytes-some}
-use Rattle.sight.specs.Sights.{sight, refusedSight, sightOf, bounds, startBy, typedStartBy, sightAt}
-use Rattle.sight.specs.Course.{Inside, numberSight, partSight, headerSight, placeOf, noPlace, placeBy, entrySight}
+use Rattle.sight.specs.Sights.{sight, refusedSight, sightOf, bounds, startBy, sightAt}
+use Rattle.sight.specs.Course.{Inside, numberSight, partSight, headerSight, pointedPlace, pointedSight, entrySight}
 use Rattle.sight.specs.declared.Sight.{Sight}
-use Rattle.sight.specs.declared.Place.{Place}
 
 -- ---- offsets whose bytes are all there
-module _ (d : List ℕ) (large : Bool) (at e : ℕ) (w : Within (length d) (at + offsetSize (kind false large)) e) where
-  size-is : {b : Bool} → large ≡ b → offsetSize (kind false large) ≡ offsetSize (kind false b)
-  size-is x = ap (λ (l : Bool). offsetSize (kind false l)) x
+size-is : {large b : Bool} → large ≡ b → offsetSize (kind false large) ≡ offsetSize (kind false b)
+size-is x = ap (λ (l : Bool). offsetSize (kind false l)) x
 
+module _ (d : List ℕ) (large : Bool) (at e : ℕ) (w : Within (length d) (at + offsetSize (kind false large)) e) where
   four-before : large ≡ true → at + 4 ≤ e
   unfolding offsetSize
   four-before x = omega (arith, w .order, size-is x)
@@ -101,13 +100,26 @@ module _ (d : List ℕ) (i e : ℕ) where
         known literal.False = shown-bytes type.Literal i l
 
 -- ---- numbers, whatever number it is
-number-shown : (t : JsonbType) (i e : ℕ) (x : Number) → 1 ≤ i → numberSight t i e ≡ sightOf (numberAt t (bytesOf t) i e x) i
+by-number : (t : JsonbType) (i e : ℕ) (x : Number) → 1 ≤ i → numberSight t i e ≡ sightOf (numberAt t (bytesOf t) i e x) i
 unfolding numberSight numberAt
-number-shown t i e x h = go (ltb (e - i) (bytesOf t))
+by-number t i e x h = go (ltb (e - i) (bytesOf t))
   where
     go : (b : Bool) → cond b (refusedSight 3) (sight (typeCode t) (span i (bytesOf t)) 0) ≡ sightOf (cond b (read.Refused 3) (scalarOf t (scalar.Number x))) i
     go true = refl
     go false = shown-bytes t i h
+
+-- s is the type that was matched
+pub number-shown : {t s : JsonbType} → t ≡ s → (i e : ℕ) (x : Number) → 1 ≤ i → numberSight t i e ≡ sightOf (numberAt s (bytesOf s) i e x) i
+number-shown {t} {s} q i e x h = ap (λ (u : JsonbType). numberSight u i e) q ∙ by-number s i e x h
+
+-- four bytes are all that a large container's entry has
+pub four-size : {large : Bool} → large ≡ true → 4 ≡ offsetSize (kind false large)
+unfolding offsetSize
+four-size x = sym (size-is x)
+
+pub four-own : {large : Bool} (t : JsonbType) (body : ℕ) {r : Sight} (z : Sight) → large ≡ true → r ≡ numberSight t body (body + 4) →
+    r ≡ cond large (numberSight t body (body + offsetSize (kind false large))) z
+four-own t body z x p = yes z x (p ∙ ap (λ (n : ℕ). numberSight t body (body + n)) (four-size x))
 
 module _ (t : JsonbType) (i e : ℕ) {w : ℕ} (we : w ≡ bytesOf t) where
   pub number-short : e - i < w → refusedSight 3 ≡ numberSight t i e
@@ -121,9 +133,13 @@ module _ (t : JsonbType) (i e : ℕ) {w : ℕ} (we : w ≡ bytesOf t) where
       (ap (λ (n : ℕ). sight n (span i w) 0) ce ∙ ap (λ (n : ℕ). sight (typeCode t) (span i n) 0) we)
 
 -- ---- parts
-string-shown : (i : ℕ) (p : Part) → partSight 12 0 p ≡ sightOf (partOf type.String scalar.String p) i
-string-shown i (part.Bytes s) = refl
-string-shown i (part.Refused n) = refl
+string-by : (i : ℕ) (p : Part) → partSight 12 0 p ≡ sightOf (partOf type.String scalar.String p) i
+string-by i (part.Bytes s) = refl
+string-by i (part.Refused n) = refl
+
+pub string-shown : (d : List ℕ) (i e : ℕ) → partSight 12 0 (partAt d i e) ≡ sightOf (stringAt d i e) i
+unfolding stringAt
+string-shown d i e = string-by i (partAt d i e)
 
 opaque-shown : (i : ℕ) (t : ColumnType) (p : Part) → partSight 15 (columnCode t) p ≡ sightOf (partOf type.Opaque (scalar.Opaque t) p) i
 opaque-shown i t (part.Bytes s) = refl
@@ -147,9 +163,12 @@ module _ (d : List ℕ) (i e : ℕ) where
     opaque-known {t} q ce = ap (λ (n : ℕ). partSight 15 n (partAt d (i + 1) e)) ce ∙ opaque-shown i t (partAt d (i + 1) e) ∙ opaque-is q
 
 -- ---- containers
-header-shown : (k : Kind) (i : ℕ) (h : Header) → headerSight (kindCode k) i h ≡ sightOf (viewed k i h) i
-header-shown k i (header.Whole n s) = refl
-header-shown k i (header.Refused n) = refl
+header-by : (k : Kind) (i : ℕ) (h : Header) → headerSight (kindCode k) i h ≡ sightOf (viewed k i h) i
+header-by k i (header.Whole n s) = refl
+header-by k i (header.Refused n) = refl
+
+pub header-shown : (d : List ℕ) (k : Kind) (i e : ℕ) → headerSight (kindCode k) i (headerAt d k i e) ≡ sightOf (containerAt d k i e) i
+header-shown d k i e = header-by k i (headerAt d k i e)
 
 -- the count and the size are there; w is the offset size as the callee gives it
 module _ (n i e : ℕ) (o l : Bool) {w : ℕ} (we : w ≡ offsetSize (kind o l)) (p : Within n i e) (h : 2 * w ≤ e - i) where
@@ -163,87 +182,134 @@ module _ (n i e : ℕ) (o l : Bool) {w : ℕ} (we : w ≡ offsetSize (kind o l))
   pub size-there : Within n (i + w + offsetSize (kind false l)) e
   size-there = record { order = omega (arith, same-size, p .order); inside = p .inside; short = p .short }
 
--- ---- a content by the type that was matched
-module _ (d : List ℕ) (i e : ℕ) {t s : JsonbType} {r : Sight} (q : t ≡ s) where
-  pub content-shown : r ≡ sightOf (contentAt d s i e) i → r ≡ sightOf (contentAt d t i e) i
-  content-shown p = p ∙ ap (λ (u : JsonbType). sightOf (contentAt d u i e) i) (sym q)
-
-  pub content-number : (x : Number) → 1 ≤ i → contentAt d s i e ≡ numberAt s (bytesOf s) i e x → r ≡ numberSight t i e → r ≡ sightOf (contentAt d t i e) i
-  content-number x h ce p =
-      content-shown (p ∙ ap (λ (u : JsonbType). numberSight u i e) q ∙ number-shown s i e x h ∙ ap (λ (y : Read). sightOf y i) (sym ce))
-
-  pub content-container : (k : Kind) → contentAt d s i e ≡ containerAt d k i e → r ≡ headerSight (kindCode k) i (headerAt d k i e) → r ≡ sightOf (contentAt d t i e) i
-  content-container k ce p = content-shown (p ∙ header-shown k i (headerAt d k i e) ∙ ap (λ (y : Read). sightOf y i) (sym ce))
-
-  pub content-string : contentAt d s i e ≡ stringAt d i e → r ≡ partSight 12 0 (partAt d i e) → r ≡ sightOf (contentAt d t i e) i
-  unfolding stringAt
-  content-string ce p = content-shown (p ∙ string-shown i (partAt d i e) ∙ ap (λ (y : Read). sightOf y i) (sym ce))
-
--- ---- where a value stands; whether it stands in the entry, b, the offset size w and the offset o as callees give them
-module _ (d : List ℕ) (v : View) (t : JsonbType) (body : ℕ) where
+-- ---- where the offset past a type byte leads; the offset size w and the offset o as callees give them
+module _ (d : List ℕ) (v : View) (body : ℕ) where
   abbrev there : ℕ
   there = v .start + offsetAt d (v .kind) body (endOf v)
 
   abbrev own : ℕ
   own = body + offsetSize (v .kind)
 
-  module _ {b : Bool} (be : b ≡ isInlined t (v .kind .large)) {w : ℕ} (we : w ≡ offsetSize (v .kind)) where
-    pub place-inlined : b ≡ true → placeOf body (body + w) ≡ placeBy d v t body
-    unfolding placeBy
-    place-inlined x = yes _ (sym be ∙ x) (ap (λ (n : ℕ). placeOf body (body + n)) we)
+  module _ {w : ℕ} (we : w ≡ offsetSize (v .kind)) {o : ℕ} (oe : o ≡ offsetAt d (v .kind) body (endOf v)) where
+    pub place-low : v .start + o < body + w → 0 ≡ pointedPlace d v body
+    unfolding pointedPlace
+    place-low y = yes _ (lt-ltb there own (omega arith)) refl
 
-    module _ (x : b ≡ false) {o : ℕ} (oe : o ≡ offsetAt d (v .kind) body (endOf v)) where
-      pub place-low : v .start + o < body + w → noPlace ≡ placeBy d v t body
-      unfolding placeBy
-      place-low y = no _ (sym be ∙ x) (yes _ (lt-ltb there own (omega arith)) refl)
+    module _ (y : body + w ≤ v .start + o) where
+      pub place-high : endOf v < v .start + o → 0 ≡ pointedPlace d v body
+      unfolding pointedPlace
+      place-high z = no _ (le-ltb there own (omega arith)) (yes _ (lt-ltb (endOf v) there (omega arith)) refl)
 
-      module _ (y : body + w ≤ v .start + o) where
-        pub place-high : endOf v < v .start + o → noPlace ≡ placeBy d v t body
-        unfolding placeBy
-        place-high z = no _ (sym be ∙ x) (no _ (le-ltb there own (omega arith)) (yes _ (lt-ltb (endOf v) there (omega arith)) refl))
+      pub place-right : v .start + o ≤ endOf v → v .start + o ≡ pointedPlace d v body
+      unfolding pointedPlace
+      place-right z = no _ (le-ltb there own (omega arith)) (no _ (le-ltb (endOf v) there (omega arith)) (ap (λ (n : ℕ). v .start + n) oe))
 
-        pub place-right : v .start + o ≤ endOf v → placeOf (v .start + o) (endOf v) ≡ placeBy d v t body
-        unfolding placeBy
-        place-right z =
-            no _ (sym be ∙ x)
-            (no _ (le-ltb there own (omega arith)) (no _ (le-ltb (endOf v) there (omega arith)) (ap (λ (n : ℕ). placeOf (v .start + n) (endOf v)) oe)))
+  size-some : 1 ≤ offsetSize (v .kind)
+  unfolding offsetSize
+  size-some = go (v .kind .large)
+    where
+      go : (b : Bool) → 1 ≤ cond b 4 2
+      go true = omega arith
+      go false = omega arith
 
-  -- what a place says of the value there
-  pub record Typed (p : Place) (x : Sight) : Type 0 where
-    pub none : (p .refusal ≡ 0 → ⊥) → refusedSight (p .refusal) ≡ x
-    pub inside : p .refusal ≡ 0 → Inside (length d) (p .at) (p .end)
-    pub some : p .refusal ≡ 0 → sightOf (contentAt d t (p .at) (p .end)) (p .at) ≡ x
+  -- what a place says of what stands there
+  pub record Pointed (show : ℕ → ℕ → Sight) (p : ℕ) (x : Sight) : Type 0 where
+    pub none : p ≡ 0 → refusedSight 6 ≡ x
+    pub some : (p ≡ 0 → ⊥) → show p (endOf v) ≡ x
 
-  module _ (f : 1 ≤ body) (w : Within (length d) own (endOf v)) where
-    right-by : (i e : ℕ) → Inside (length d) i e → Typed (placeOf i e) (sightOf (readAt d t i e) i)
-    unfolding readAt
-    right-by i e h =
+  module _ (w : Within (length d) own (endOf v)) where
+    -- a right place lies past its entry and up to the container's end
+    there-inside : ltb there own ≡ false → ltb (endOf v) there ≡ false → Inside (length d) there (endOf v)
+    there-inside x y =
         record {
-          none = λ z. absurd (z refl);
-          inside = λ z. h;
-          some = λ z. ap (λ (y : Read). sightOf y i) (sym (placed-within d i e read.Refused (h .within)));
+          first = omega (arith, size-some, ltb-false there own x);
+          within = record { order = ltb-false (endOf v) there y; inside = w .inside; short = w .short };
         }
 
-    none-by : (i : ℕ) → Typed noPlace (sightOf (read.Refused 6) i)
-    none-by i = record { none = λ z. refl; inside = λ z. absurd (omega arith); some = λ z. absurd (omega arith) }
-
-    typed-by : Typed (placeBy d v t body) (sightOf (typedEntry d v t body) (startBy d v body t))
-    unfolding placeBy typedEntry pointedAt startBy
-    typed-by = go (isInlined t (v .kind .large)) (ltb there own) (ltb (endOf v) there) refl refl
+    pub pointed-inside : {p : ℕ} → p ≡ pointedPlace d v body → (p ≡ 0 → ⊥) → Inside (length d) p (endOf v)
+    unfolding pointedPlace
+    pointed-inside q z = go (ltb there own) (ltb (endOf v) there) refl refl q z
       where
-        go : (a b c : Bool) → ltb there own ≡ b → ltb (endOf v) there ≡ c →
-            Typed (cond a (placeOf body own) (cond b noPlace (cond c noPlace (placeOf there (endOf v)))))
-            (sightOf (cond a (readAt d t body own) (cond b (read.Refused 6) (cond c (read.Refused 6) (readAt d t there (endOf v))))) (cond a body there))
-        go true b c x y =
-            right-by body own (record { first = f; within = record { order = omega arith; inside = omega (arith, w .order, w .inside); short = w .short } })
-        go false true c x y = none-by there
-        go false false true x y = none-by there
-        go false false false x y =
-            right-by there (endOf v)
-            (record { first = omega (arith, f, ltb-false there own x); within = record { order = ltb-false (endOf v) there y; inside = w .inside; short = w .short } })
+        go : (b c : Bool) → ltb there own ≡ b → ltb (endOf v) there ≡ c → {p : ℕ} → p ≡ cond b 0 (cond c 0 there) → (p ≡ 0 → ⊥) → Inside (length d) p (endOf v)
+        go true c x y q z = absurd (z q)
+        go false true x y q z = absurd (z q)
+        go false false x y q z = subst (λ (p : ℕ). Inside (length d) p (endOf v)) (sym q) (there-inside x y)
 
-    pub typed : {p : Place} → p ≡ placeBy d v t body → Typed p (sightOf (typedEntry d v t body) (startBy d v body t))
-    typed q = subst (λ (p : Place). Typed p (sightOf (typedEntry d v t body) (startBy d v body t))) (sym q) typed-by
+  module _ (w : Within (length d) own (endOf v)) (show : ℕ → ℕ → Sight) where
+    pointed-by : Pointed show (pointedPlace d v body) (pointedSight d v body show)
+    unfolding pointedPlace pointedSight
+    pointed-by = go (ltb there own) (ltb (endOf v) there) refl refl
+      where
+        none-by : Pointed show 0 (refusedSight 6)
+        none-by = record { none = λ z. refl; some = λ z. absurd (z refl) }
+
+        go : (b c : Bool) → ltb there own ≡ b → ltb (endOf v) there ≡ c →
+            Pointed show (cond b 0 (cond c 0 there)) (cond b (refusedSight 6) (cond c (refusedSight 6) (show there (endOf v))))
+        go true c x y = none-by
+        go false true x y = none-by
+        go false false x y = record { none = λ z. absurd (omega (arith, there-inside w x y .first, z)); some = λ z. refl }
+
+    pub pointed : {p : ℕ} → p ≡ pointedPlace d v body → Pointed show p (pointedSight d v body show)
+    pointed q = subst (λ (p : ℕ). Pointed show p (pointedSight d v body show)) (sym q) pointed-by
+
+    -- what a type shows at each place, it shows where its offset leads
+    pointed-shown : (t : JsonbType) → ((i e : ℕ) → Inside (length d) i e → show i e ≡ sightOf (contentAt d t i e) i) →
+        pointedSight d v body show ≡ sightOf (pointedAt d v t body) there
+    unfolding pointedSight pointedAt readAt
+    pointed-shown t h = go (ltb there own) (ltb (endOf v) there) refl refl
+      where
+        right : Inside (length d) there (endOf v) → show there (endOf v) ≡ sightOf (readAt d t there (endOf v)) there
+        right l = h there (endOf v) l ∙ ap (λ (y : Read). sightOf y there) (sym (placed-within d there (endOf v) read.Refused (l .within)))
+
+        go : (b c : Bool) → ltb there own ≡ b → ltb (endOf v) there ≡ c →
+            cond b (refusedSight 6) (cond c (refusedSight 6) (show there (endOf v)))
+            ≡ sightOf (cond b (read.Refused 6) (cond c (read.Refused 6) (readAt d t there (endOf v)))) there
+        go true c x y = refl
+        go false true x y = refl
+        go false false x y = right (there-inside w x y)
+
+-- ---- an entry by the type s that was matched
+abbrev typed : List ℕ → View → ℕ → JsonbType → Sight
+typed d v body u = sightOf (typedEntry d v u body) (startBy d v body u)
+
+body-within : (d : List ℕ) (v : View) (body : ℕ) → Within (length d) (own d v body) (endOf v) → Within (length d) body (own d v body)
+body-within d v body w = record { order = omega arith; inside = omega (arith, w .order, w .inside); short = w .short }
+
+-- n is the offset size m as the callee gives it
+pub entry-short : (body : ℕ) {l m n e : ℕ} → n ≡ m → Within l (body + m) e → (body ≤ body + n) × (body + n ≤ 16777216)
+entry-short body ne w = (omega arith, omega (arith, w .order, w .inside, w .short, ne))
+
+module _ (d : List ℕ) (v : View) (body : ℕ) (w : Within (length d) (own d v body) (endOf v)) {t s : JsonbType} {r : Sight} (q : t ≡ s) where
+  by-place : {b : Bool} → isInlined s (v .kind .large) ≡ b →
+      r ≡ sightOf (cond b (readAt d s body (own d v body)) (pointedAt d v s body)) (cond b body (there d v body)) → r ≡ typed d v body t
+  unfolding typedEntry startBy
+  by-place x p =
+      p
+      ∙ sym (ap (λ (b : Bool). sightOf (cond b (readAt d s body (own d v body)) (pointedAt d v s body)) (cond b body (there d v body))) x)
+      ∙ ap (typed d v body) (sym q)
+
+  -- in the entry; its offset size n as the callee gives it
+  pub typed-inlined : isInlined s (v .kind .large) ≡ true → {n : ℕ} → n ≡ offsetSize (v .kind) → r ≡ sightOf (contentAt d s body (body + n)) body → r ≡ typed d v body t
+  unfolding readAt
+  typed-inlined x ne p =
+      by-place x
+      (p ∙ ap (λ (m : ℕ). sightOf (contentAt d s body (body + m)) body) ne
+      ∙ ap (λ (y : Read). sightOf y body) (sym (placed-within d body (own d v body) read.Refused (body-within d v body w))))
+
+  -- at its offset
+  pub typed-pointed : isInlined s (v .kind .large) ≡ false → (show : ℕ → ℕ → Sight) →
+      ((i e : ℕ) → Inside (length d) i e → show i e ≡ sightOf (contentAt d s i e) i) → r ≡ pointedSight d v body show → r ≡ typed d v body t
+  typed-pointed x show h p = by-place x (p ∙ pointed-shown d v body w show s h)
+
+  -- in the entry of a large container, else at its offset
+  pub typed-four : 1 ≤ body → isInlined s (v .kind .large) ≡ v .kind .large → (show : ℕ → ℕ → Sight) →
+      ((i e : ℕ) → Inside (length d) i e → show i e ≡ sightOf (contentAt d s i e) i) →
+      r ≡ cond (v .kind .large) (show body (own d v body)) (pointedSight d v body show) → r ≡ typed d v body t
+  typed-four f x show h p = go (v .kind .large) refl p
+    where
+      go : (b : Bool) → v .kind .large ≡ b → r ≡ cond b (show body (own d v body)) (pointedSight d v body show) → r ≡ typed d v body t
+      go true y z = typed-inlined (x ∙ y) refl (z ∙ h body (own d v body) (record { first = f; within = body-within d v body w }))
+      go false y z = typed-pointed (x ∙ y) show h z
 
 -- ---- an entry; y is its type as the callee gives it
 pub entry-shown : (d : List ℕ) (v : View) (at : ℕ) {y z : TypeOf} → y ≡ typeOf (getD d at 0) → y ≡ z → entrySight d v at z ≡ entrySight d v at (typeOf (getD d at 0))

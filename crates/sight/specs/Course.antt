@@ -21,12 +21,11 @@ use Rattle.content.specs.declared.Part.{Part}
 use Rattle.content.specs.declared.Part.the-variants as part
 use Rattle.content.specs.declared.Header.{Header}
 use Rattle.content.specs.declared.Header.the-variants as header
-use Rattle.entry.specs.Entries.{endOf, isInlined, entryOf}
+use Rattle.entry.specs.Entries.{endOf, entryOf}
 use Rattle.events.specs.Events.{span, bytesOf, scalarPart}
 use Rattle.events.specs.Text.{isText, scalarText}
 use Rattle.sight.specs.Sights.{sight, refusedSight, sightOf, typedStartBy}
 use Rattle.sight.specs.declared.Sight.{Sight}
-use Rattle.sight.specs.declared.Place.{Place}
 
 -- a place in the document that is not its first byte
 pub record Inside (n at e : ℕ) : Type 0 where
@@ -45,18 +44,19 @@ abbrev pub headerSight : ℕ → ℕ → Header → Sight
 headerSight code i (header.Whole n s) = sight code (span i s) n
 headerSight code i (header.Refused n) = refusedSight n
 
-abbrev pub placeOf : ℕ → ℕ → Place
-placeOf i e = record { refusal = 0; at = i; end = e }
+-- where the offset past an entry's type byte leads, or 0 where it is refused
+unfoldable pub pointedPlace : List ℕ → View → ℕ → ℕ
+pointedPlace d v body =
+    cond (ltb (v .start + offsetAt d (v .kind) body (endOf v)) (body + offsetSize (v .kind))) 0
+    (cond (ltb (endOf v) (v .start + offsetAt d (v .kind) body (endOf v))) 0
+    (v .start + offsetAt d (v .kind) body (endOf v)))
 
-abbrev pub noPlace : Place
-noPlace = record { refusal = 6; at = 0; end = 0 }
-
-unfoldable pub placeBy : List ℕ → View → JsonbType → ℕ → Place
-placeBy d v t body =
-    cond (isInlined t (v .kind .large)) (placeOf body (body + offsetSize (v .kind)))
-    (cond (ltb (v .start + offsetAt d (v .kind) body (endOf v)) (body + offsetSize (v .kind))) noPlace
-    (cond (ltb (endOf v) (v .start + offsetAt d (v .kind) body (endOf v))) noPlace
-    (placeOf (v .start + offsetAt d (v .kind) body (endOf v)) (endOf v))))
+-- what stands there, by what a place up to an end shows
+unfoldable pub pointedSight : List ℕ → View → ℕ → (ℕ → ℕ → Sight) → Sight
+pointedSight d v body show =
+    cond (ltb (v .start + offsetAt d (v .kind) body (endOf v)) (body + offsetSize (v .kind))) (refusedSight 6)
+    (cond (ltb (endOf v) (v .start + offsetAt d (v .kind) body (endOf v))) (refusedSight 6)
+    (show (v .start + offsetAt d (v .kind) body (endOf v)) (endOf v)))
 
 -- an entry at a place, by its type
 abbrev pub entrySight : List ℕ → View → ℕ → TypeOf → Sight

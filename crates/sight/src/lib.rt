@@ -10,18 +10,18 @@ use layout::Kind;
 use raw::Length;
 use value::Span;
 ghost use mathlib.Core.Path.{_≡_};
-ghost use mathlib.Core.Bool.{false};
+ghost use mathlib.Core.Bool.{false, cond};
 ghost use Prim.Native.Nat.{_+_, _<_, _≤_};
 ghost use lib.ListN.{length, getD, take, drop};
 ghost use Rattle.raw.specs.Numbers.{value};
 ghost use Rattle.codes.specs.Types.{typeOf};
 ghost use Rattle.layout.specs.Layout.{offsetSize, offsetAt};
-ghost use Rattle.content.specs.Reading.{contentAt, literalAt, opaqueAt, partAt, headerAt, kind};
+ghost use Rattle.content.specs.Reading.{literalAt, opaqueAt, partAt, headerAt, kind};
 ghost use Rattle.content.specs.Course.{Within};
 ghost use Rattle.entry.specs.Entries.{typedEntry};
 ghost use Rattle.events.specs.Events.{bytesOf, span};
 ghost use Rattle.sight.specs.Sights.{sight, refusedSight, sightOf, bounds, startBy, sightAt};
-ghost use Rattle.sight.specs.Course.{Inside, numberSight, partSight, headerSight, placeBy, entrySight};
+ghost use Rattle.sight.specs.Course.{Inside, numberSight, partSight, headerSight, pointedPlace, pointedSight, entrySight};
 
 // What an event shows of a value, or a refusal with zeros. The refusal is 0 where there is none.
 pub struct Sight {
@@ -29,13 +29,6 @@ pub struct Sight {
     pub code: u32,
     pub part: Span,
     pub extra: u32,
-}
-
-// Where a value stands and how far it may reach, or a refusal with zeros.
-struct Place {
-    refusal: u8,
-    at: usize,
-    end: usize,
 }
 
 fn wide(x: u8) -> u32
@@ -172,67 +165,98 @@ fn sight_header(doc: &[u8], object: bool, large: bool, code: u32, at: usize, end
     shown(code, at, size, count)
 }
 
-// The content of a type at a place.
-fn sight_content(doc: &[u8], t: JsonbType, at: usize, end: usize) -> Sight
-    requires { ⌜ Inside (length (now doc)) at end ⌝ }
-    ensures { λ r. ⌜ r ≡ sightOf (contentAt (now (doc .entry)) t at end) at ⌝ }
-{
-    match t {
-        JsonbType::SmallObject => sight_header(doc, true, false, 0, at, end),
-        JsonbType::LargeObject => sight_header(doc, true, true, 1, at, end),
-        JsonbType::SmallArray => sight_header(doc, false, false, 2, at, end),
-        JsonbType::LargeArray => sight_header(doc, false, true, 3, at, end),
-        JsonbType::Literal => sight_literal(doc, at, end),
-        JsonbType::Int16 => sight_number(t, 2, at, end),
-        JsonbType::Uint16 => sight_number(t, 2, at, end),
-        JsonbType::Int32 => sight_number(t, 4, at, end),
-        JsonbType::Uint32 => sight_number(t, 4, at, end),
-        JsonbType::Int64 => sight_number(t, 8, at, end),
-        JsonbType::Uint64 => sight_number(t, 8, at, end),
-        JsonbType::Double => sight_number(t, 8, at, end),
-        JsonbType::String => sight_part(doc, 12, 0, at, end),
-        JsonbType::Opaque => sight_opaque(doc, at, end),
-    }
-}
-
-// Where the value of a type stands whose entry has its body there: in the entry, or at its offset.
-fn place_of(doc: &[u8], large: bool, start: u32, size: u32, t: JsonbType, body: usize) -> Place
+// Where the offset past an entry's type byte leads, or 0 where it is refused: no value starts at the first byte.
+fn pointed(doc: &[u8], large: bool, start: u32, size: u32, body: usize) -> usize
     requires { ⌜ Within (length (now doc)) (body + offsetSize (kind false large)) (start + size) ⌝ }
-    ensures { λ r. ⌜ r ≡ placeBy (now (doc .entry)) (bounds large start size) t body ⌝ }
+    ensures { λ r. ⌜ r ≡ pointedPlace (now (doc .entry)) (bounds large start size) body ⌝ }
 {
     let k = Kind {
         object: false,
         large,
     };
     let own = body + k.offset_size();
-    if entry::is_inlined(t, large) {
-        return Place {
-            refusal: 0,
-            at: body,
-            end: own,
-        };
-    }
     let end = start as usize + size as usize;
     let at = start as usize + offset_at(doc, large, body, end) as usize;
     if at < own {
-        return Place {
-            refusal: refusal::POINTER,
-            at: 0,
-            end: 0,
-        };
+        return 0;
     }
     if end < at {
-        return Place {
-            refusal: refusal::POINTER,
-            at: 0,
-            end: 0,
-        };
+        return 0;
     }
-    Place {
-        refusal: 0,
-        at,
-        end,
+    at
+}
+
+// Each group of types asks for the place itself, so that the type is matched once.
+fn pointed_header(
+    doc: &[u8],
+    large: bool,
+    start: u32,
+    size: u32,
+    body: usize,
+    object: bool,
+    big: bool,
+    code: u32,
+) -> Sight
+    requires { ⌜ Within (length (now doc)) (body + offsetSize (kind false large)) (start + size) ⌝ }
+    ensures { λ r. ⌜ r ≡ pointedSight (now (doc .entry)) (bounds large start size) body (λ i e. headerSight code i (headerAt (now (doc .entry)) (kind object big) i e)) ⌝ }
+{
+    let at = pointed(doc, large, start, size, body);
+    if at == 0 {
+        return refused(refusal::POINTER);
     }
+    sight_header(doc, object, big, code, at, start as usize + size as usize)
+}
+
+fn pointed_number(
+    doc: &[u8],
+    large: bool,
+    start: u32,
+    size: u32,
+    body: usize,
+    t: JsonbType,
+    w: u32,
+) -> Sight
+    requires { ⌜ (w ≡ bytesOf t) × Within (length (now doc)) (body + offsetSize (kind false large)) (start + size) ⌝ }
+    ensures { λ r. ⌜ r ≡ pointedSight (now (doc .entry)) (bounds large start size) body (numberSight t) ⌝ }
+{
+    let at = pointed(doc, large, start, size, body);
+    if at == 0 {
+        return refused(refusal::POINTER);
+    }
+    sight_number(t, w, at, start as usize + size as usize)
+}
+
+fn pointed_string(doc: &[u8], large: bool, start: u32, size: u32, body: usize) -> Sight
+    requires { ⌜ Within (length (now doc)) (body + offsetSize (kind false large)) (start + size) ⌝ }
+    ensures { λ r. ⌜ r ≡ pointedSight (now (doc .entry)) (bounds large start size) body (λ i e. partSight 12 0 (partAt (now (doc .entry)) i e)) ⌝ }
+{
+    let at = pointed(doc, large, start, size, body);
+    if at == 0 {
+        return refused(refusal::POINTER);
+    }
+    sight_part(doc, 12, 0, at, start as usize + size as usize)
+}
+
+fn pointed_opaque(doc: &[u8], large: bool, start: u32, size: u32, body: usize) -> Sight
+    requires { ⌜ Within (length (now doc)) (body + offsetSize (kind false large)) (start + size) ⌝ }
+    ensures { λ r. ⌜ r ≡ pointedSight (now (doc .entry)) (bounds large start size) body (λ i e. sightOf (opaqueAt (now (doc .entry)) i e) i) ⌝ }
+{
+    let at = pointed(doc, large, start, size, body);
+    if at == 0 {
+        return refused(refusal::POINTER);
+    }
+    sight_opaque(doc, at, start as usize + size as usize)
+}
+
+// A number of four bytes stands in the entry of a large container, and else at its offset.
+fn sight_four(doc: &[u8], large: bool, start: u32, size: u32, body: usize, t: JsonbType) -> Sight
+    requires { ⌜ (4 ≡ bytesOf t) × Within (length (now doc)) (body + offsetSize (kind false large)) (start + size) ⌝ }
+    ensures { λ r. ⌜ r ≡ cond large (numberSight t body (body + offsetSize (kind false large))) (pointedSight (now (doc .entry)) (bounds large start size) body (numberSight t)) ⌝ }
+{
+    if large {
+        return sight_number(t, 4, body, body + 4);
+    }
+    pointed_number(doc, large, start, size, body, t, 4)
 }
 
 // The value of a type whose entry has its body there.
@@ -240,11 +264,27 @@ fn sight_typed(doc: &[u8], large: bool, start: u32, size: u32, t: JsonbType, bod
     requires { ⌜ (1 ≤ body) × Within (length (now doc)) (body + offsetSize (kind false large)) (start + size) ⌝ }
     ensures { λ r. ⌜ r ≡ sightOf (typedEntry (now (doc .entry)) (bounds large start size) t body) (startBy (now (doc .entry)) (bounds large start size) body t) ⌝ }
 {
-    let p = place_of(doc, large, start, size, t, body);
-    if p.refusal != 0 {
-        return refused(p.refusal);
+    let k = Kind {
+        object: false,
+        large,
+    };
+    let own = body + k.offset_size();
+    match t {
+        JsonbType::SmallObject => pointed_header(doc, large, start, size, body, true, false, 0),
+        JsonbType::LargeObject => pointed_header(doc, large, start, size, body, true, true, 1),
+        JsonbType::SmallArray => pointed_header(doc, large, start, size, body, false, false, 2),
+        JsonbType::LargeArray => pointed_header(doc, large, start, size, body, false, true, 3),
+        JsonbType::Literal => sight_literal(doc, body, own),
+        JsonbType::Int16 => sight_number(t, 2, body, own),
+        JsonbType::Uint16 => sight_number(t, 2, body, own),
+        JsonbType::Int32 => sight_four(doc, large, start, size, body, t),
+        JsonbType::Uint32 => sight_four(doc, large, start, size, body, t),
+        JsonbType::Int64 => pointed_number(doc, large, start, size, body, t, 8),
+        JsonbType::Uint64 => pointed_number(doc, large, start, size, body, t, 8),
+        JsonbType::Double => pointed_number(doc, large, start, size, body, t, 8),
+        JsonbType::String => pointed_string(doc, large, start, size, body),
+        JsonbType::Opaque => pointed_opaque(doc, large, start, size, body),
     }
-    sight_content(doc, t, p.at, p.end)
 }
 
 // The value of the entry at a place.
