@@ -8,12 +8,27 @@ ghost use Rattle.groups.specs.Course.{rest, lead, wholes};
 ghost use Rattle.groups.specs.Read.{inRange, unitOf};
 ghost use Rattle.groups.specs.Write.{told, sizeOf};
 
-// The bytes of a group of d digits.
+// The bytes of a group of as many digits. A table of bytes is laid out in few instructions where it is used.
+const DIG_TO_BYTES: [u8; 10] = [0, 1, 1, 2, 2, 3, 3, 4, 4, 4];
+
+const POWERS_10: [u32; 10] = [
+    1,
+    10,
+    100,
+    1000,
+    10000,
+    100000,
+    1000000,
+    10000000,
+    100000000,
+    1000000000,
+];
+
 pub(crate) fn width_of(d: usize) -> usize
     requires { ⌜ d ≤ 9 ⌝ }
     ensures { λ r. ⌜ (r ≡ width d) × (r ≤ 4) ⌝ }
 {
-    if d < 7 { (d + 1) / 2 } else { 4 }
+    DIG_TO_BYTES[d] as usize
 }
 
 // A ninth of n, rounded down: for so small a number one product and a shift.
@@ -50,23 +65,11 @@ pub(crate) fn sides_of(intg: usize, frac: usize) -> Sides
     }
 }
 
-// 10 to the d. (A match is a table in the program; an array would be laid out anew at each call.)
 pub(crate) fn power(d: usize) -> u32
     requires { ⌜ d ≤ 9 ⌝ }
     ensures { λ r. ⌜ (r ≡ 10 ^ d) × ((r ≤ 1000000000) × (0 < r)) ⌝ }
 {
-    match d {
-        0 => 1,
-        1 => 10,
-        2 => 100,
-        3 => 1000,
-        4 => 10000,
-        5 => 100000,
-        6 => 1000000,
-        7 => 10000000,
-        8 => 100000000,
-        _ => 1000000000,
-    }
+    POWERS_10[d]
 }
 
 // The digits of the group at place k.

@@ -1,67 +1,29 @@
--- Each arm's number is the power of the digit that it is for.
+-- The table's rule is a test at each of its ten entries, which antt computes.
 -- Assumes what the contract requires, and nothing else.
-use mathlib.Core.Path.{_≡_, sym, ap}
-use Prim.Native.Nat.{ℕ, _+_, _^_, _≤_, _<_}
-use native.Mathlib.Nat.{pow-le-pow-right}
-use native.Mathlib.Omega.{arith}
-use lib.Dec.{lit<, lit≤}
-use Rattle.groups.proofs.Places.{pow-pos10}
+use mathlib.Core.List.{List, [], _∷_}
+use Prim.Native.Nat.{ℕ, _^_}
+use lib.Dec.{eqb, eqb→eq, leb, leb→le}
+use lib.ListN.{getD}
+use borrow.Author.Needs.{needs}
+use Rattle.groups.proofs.Finite.{at}
 use Rattle.groups.proofs.layout.power.Statement.{statement}
 use Rattle.groups.proofs.layout.power.Tie as tie
 
-entry : {d : ℕ} (k : ℕ) → d ≡ k → k ≤ 9 → (10 ^ k ≡ 10 ^ d) × ((10 ^ k ≤ 1000000000) × (0 < 10 ^ k))
-entry k e h = (ap (λ (n : ℕ). 10 ^ n) (sym e), (pow-le-pow-right (lit< tt) {j = 9} h, pow-pos10 k))
+abbrev table : List ℕ
+table = 1 ∷ 10 ∷ 100 ∷ 1000 ∷ 10000 ∷ 100000 ∷ 1000000 ∷ 10000000 ∷ 100000000 ∷ 1000000000 ∷ []
 
--- past the arms before it the digit is one more
-up : {d : ℕ} (k : ℕ) → k ≤ d → (d ≡ k → ⊥) → k + 1 ≤ d
-up k h e = omega arith
+mul-result : tie.Need-mul-result
+mul-result c = search needs
 
-nine-of : {d : ℕ} → 9 ≤ d → d ≤ 9 → d ≡ 9
-nine-of h l = omega arith
+array-read-result : tie.Need-array-read-result
+array-read-result c = search needs
 
 returns : tie.Need-returns
-returns c = entry 0 (omega arith) (lit≤ tt)
-
-returns-2 : tie.Need-returns-2
-returns-2 c = entry 1 (omega arith) (lit≤ tt)
-
-returns-3 : tie.Need-returns-3
-returns-3 c = entry 2 (omega arith) (lit≤ tt)
-
-returns-4 : tie.Need-returns-4
-returns-4 c = entry 3 (omega arith) (lit≤ tt)
-
-returns-5 : tie.Need-returns-5
-returns-5 c = entry 4 (omega arith) (lit≤ tt)
-
-returns-6 : tie.Need-returns-6
-returns-6 c = entry 5 (omega arith) (lit≤ tt)
-
-returns-7 : tie.Need-returns-7
-returns-7 c = entry 6 (omega arith) (lit≤ tt)
-
-returns-8 : tie.Need-returns-8
-returns-8 c = entry 7 (omega arith) (lit≤ tt)
-
-returns-9 : tie.Need-returns-9
-returns-9 c = entry 8 (omega arith) (lit≤ tt)
-
-returns-10 : tie.Need-returns-10
-returns-10 c =
-    let r = c .match .rest in
-    entry 9 (nine-of (up 8 (up 7 (up 6 (up 5 (up 4 (up 3 (up 2 (up 1 (up 0 (omega arith) (r .0 .0 .0 .0 .0 .0 .0 .0 .1)) (r .0 .0 .0 .0 .0 .0 .0 .1)) (r .0 .0 .0 .0 .0 .0 .1)) (r .0 .0 .0 .0 .0 .1)) (r .0 .0 .0 .0 .1)) (r .0 .0 .0 .1)) (r .0 .0 .1)) (r .0 .1)) (r .1)) (c .before .pre)) (lit≤ tt)
+returns c =
+    let t = c .args .d in (
+      eqb→eq _ _ (at (λ k. eqb (getD table k 0) (10 ^ k)) 10 tt t (search needs)),
+      (leb→le _ _ (at (λ k. leb (getD table k 0) 1000000000) 10 tt t (search needs)), leb→le _ _ (at (λ k. leb 1 (getD table k 0)) 10 tt t (search needs))),
+    )
 
 pub power-spec : {M : Type 1} → statement M
-power-spec =
-    tie.close
-    (tie.spec
-    returns
-    returns-2
-    returns-3
-    returns-4
-    returns-5
-    returns-6
-    returns-7
-    returns-8
-    returns-9
-    returns-10)
+power-spec = tie.close (tie.spec mul-result array-read-result returns)
