@@ -19,6 +19,7 @@ DOCUMENTS = [
     ('large', '64 KiB of such settings', 4),
     ('longest', '16 MiB of such settings', 1),
     ('accents', 'accents, 64 KiB', 4),
+    ('ascii', '64 KiB of ASCII', 4),
     ('shared', 'one shared string', 2),
 ]
 CALLS = ['read', 'print', 'compare', 'write', 'parse']
@@ -116,7 +117,7 @@ def tables(measured):
         cost = pair(*counts, whole) + (pair(*measured.time[case], short) if measured.native else [])
         if case in measured.size:
             size, values = measured.size[case]
-            documents.append([name, whole(size), whole(values), *cost, *(short(count / values) for count in counts)])
+            documents.append([name, whole(size), whole(values), *cost, *(short(count / values) for count in counts), f'{counts[0] / size:.2f}'])
         else:
             decimals.append([name, *cost])
     stack = [[f'100 {name}' if name != 'turns' else 'both by turns', whole(size), whole(values), whole(ours), whole(rust)]
@@ -124,7 +125,7 @@ def tables(measured):
     heap = [[name, *(whole(number) for number in measured.heap[case])] for case, name, _ in CASES]
     count = ['instructions', 'Rust', 'ratio']
     return [
-        ('The walk of a document', ['document', 'bytes', 'values', *count, *clock, 'instructions a value', 'Rust'], documents),
+        ('The walk of a document', ['document', 'bytes', 'values', *count, *clock, 'instructions a value', 'Rust', 'a byte'], documents),
         ('A call on a decimal', ['call', *count, *clock], decimals),
         ('Stack of the deepest walk, in bytes', ['document', 'bytes', 'values', 'ours', 'Rust'], stack),
         ('Heap of one call', ['call', 'blocks', 'most bytes at once', 'Rust: blocks', 'Rust: most bytes at once'], heap),
@@ -213,8 +214,8 @@ NOTES = """
 - Documents: `bratthelm_walk` into lent room, against a listing over the original's views, which has none of its own: `key_at` and `elem_at` by
   position, `from_utf8` on keys and strings, the same events into the same kind of room. tests/bench.d/driver/listing.rs is that listing.
 - The settings are those of one console, with nested objects, arrays, texts, numbers, literals and a decimal. The documents of 64 KiB and 16 MiB are
-  arrays of such settings. In the one with accents more than half of the letters take two bytes. In the last, 1,000 entries share one string of
-  20,000 bytes.
+  arrays of such settings. In the one with accents more than half of the letters take two bytes. The one of ASCII is a single string, so that
+  nearly all of it is the UTF-8 test. In the last, 1,000 entries share one string of 20,000 bytes.
 - Decimals: `read_packed`, printing, `cmp`, `write_bin` and `parse_str_bytes` of the original, its printing and writing into room that is used
   again. Its order is of written bytes and not of values; it answers as ours does on the pairs here, which differ in the last digit.
 - The stack is counted from the caller's stack pointer. The heap is what one call takes, a block that grows

@@ -48,6 +48,13 @@ pub fn accents() -> Vec<u8> {
     })
 }
 
+/// One string of ASCII, as long as fits into 65,536 bytes.
+pub fn ascii() -> Vec<u8> {
+    let words = "plain words without any accent, ";
+    let (code, text) = Text(words.chars().cycle().take(65_532).collect()).written();
+    [vec![code], text].concat()
+}
+
 /// A thousand entries with the offset of one string of 20,000 bytes.
 pub fn shared() -> Vec<u8> {
     let count = 1000u16;

@@ -29,11 +29,12 @@ use std::{
 
 use mysql_common::binlog::decimal::Decimal;
 
-const DOCUMENTS: [(&str, fn() -> Vec<u8>); 5] = [
+const DOCUMENTS: [(&str, fn() -> Vec<u8>); 6] = [
     ("settings", documents::settings),
     ("large", documents::large),
     ("longest", documents::longest),
     ("accents", documents::accents),
+    ("ascii", documents::ascii),
     ("shared", documents::shared),
 ];
 
