@@ -12,7 +12,7 @@
  *
  * Every pointer is valid for as many items as the length after it says, and is not null, even where that is 0. What a function writes to
  * (answer, events, bytes, text) overlaps nothing else that is lent to the call, and no other thread touches it meanwhile. Nothing else is
- * asked: any bytes, any numbers and any lengths have their answer. No function keeps a pointer or allocates, and the walk needs some 25,100 bytes
+ * asked: any bytes, any numbers and any lengths have their answer. No function keeps a pointer or allocates, and the walk needs some 32,400 bytes
  * of stack at most.
  *
  * The rows
