@@ -34,7 +34,7 @@ use Rattle.events.specs.Events.{noKey, wide, eventOf}
 use Rattle.events.specs.Text.{isText, isTextual}
 use Rattle.events.specs.declared.Event.{Event}
 use Rattle.events.specs.Listing.{end, fault, event}
-use Rattle.root.specs.Root.{firstByte, valueNode, readNode, rootNode}
+use Rattle.root_event.specs.Root.{firstByte, valueNode, readNode, rootNode}
 use Rattle.walk.specs.Judged.{Judged, Stand, bad, good, spot, valueJudged, keyJudged, judged, node, childless}
 use Rattle.events.specs.Lay.{Laid, laid, lay, put, room}
 use Rattle.events.proofs.Cases.{room-for}

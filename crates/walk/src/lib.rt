@@ -382,7 +382,7 @@ fn walk_object(
 pub fn walk(doc: &[u8], out: &mut [u32]) -> Walked
     ensures { λ r. ⌜ Walks (now (doc .entry)) (now (out .entry)) r (now (out .exit)) ⌝ }
 {
-    let own = root::list_root(doc, out);
+    let own = root_event::list_root(doc, out);
     let Walked::Done { count: m } = own else {
         return own;
     };

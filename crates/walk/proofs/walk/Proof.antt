@@ -14,7 +14,7 @@ use Rattle.walk.proofs.walk.Tie as tie
 use Rattle.walk.proofs.walk.Reads as reads
 use Rattle.walk.proofs.walk.Lts as lts
 use Rattle.events.proofs.room_in.Reads as room-in-reads
-use Rattle.root.proofs.list_root.Reads as list-root-reads
+use Rattle.root_event.proofs.list_root.Reads as list-root-reads
 use Rattle.walk.proofs.leads_at.Reads as leads-at-reads
 use Rattle.walk.proofs.walk_array.Reads as walk-array-reads
 use Rattle.walk.proofs.walk_object.Reads as walk-object-reads

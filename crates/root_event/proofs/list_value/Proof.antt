@@ -1,16 +1,16 @@
 -- The test is the definition's: a string that is no text is 9, and any other value is put down.
 -- Assumes nothing.
 use borrow.Author.Tests.{not-true, not-false}
-use Rattle.root.proofs.Cases.{value-no-text, value-listed}
+use Rattle.root_event.proofs.Cases.{value-no-text, value-listed}
 use borrow.Author.Needs.{needs}
-use Rattle.root.proofs.list_value.Statement.{statement}
-use Rattle.root.proofs.list_value.Tie as tie
-use Rattle.root.proofs.list_value.Reads as reads
-use Rattle.root.proofs.list_value.Lts as lts
+use Rattle.root_event.proofs.list_value.Statement.{statement}
+use Rattle.root_event.proofs.list_value.Tie as tie
+use Rattle.root_event.proofs.list_value.Reads as reads
+use Rattle.root_event.proofs.list_value.Lts as lts
 use Rattle.events.proofs.is_text.Reads as is-text-reads
 use Rattle.events.proofs.put_value.Reads as put-value-reads
-use Rattle.root.proofs.first_byte.Reads as first-byte-reads
-use Rattle.root.proofs.string_of.Reads as string-of-reads
+use Rattle.root_event.proofs.first_byte.Reads as first-byte-reads
+use Rattle.root_event.proofs.string_of.Reads as string-of-reads
 
 string-of-requires : tie.Need-string-of-requires
 string-of-requires c κs = search needs

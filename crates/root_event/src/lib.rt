@@ -7,7 +7,7 @@ use value::Span;
 use value::Value;
 ghost use mathlib.Core.Path.{_≡_};
 ghost use Rattle.events.specs.Lay.{lay, laid};
-ghost use Rattle.root.specs.Root.{stringIn, stringOf, firstByte, spotOf, valueNode, readNode, rootNode};
+ghost use Rattle.root_event.specs.Root.{stringIn, stringOf, firstByte, spotOf, valueNode, readNode, rootNode};
 
 // The string of a scalar; of another, no bytes.
 fn string_in(s: Scalar) -> Span

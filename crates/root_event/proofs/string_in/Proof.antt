@@ -1,12 +1,12 @@
 -- Of scalars a string alone has bytes that are text.
 -- Assumes nothing.
 use mathlib.Core.Path.{sym, ap}
-use Rattle.root.specs.Root.{stringIn}
+use Rattle.root_event.specs.Root.{stringIn}
 use borrow.Author.Needs.{needs}
-use Rattle.root.proofs.string_in.Statement.{statement}
-use Rattle.root.proofs.string_in.Tie as tie
-use Rattle.root.proofs.string_in.Reads as reads
-use Rattle.root.proofs.string_in.Lts as lts
+use Rattle.root_event.proofs.string_in.Statement.{statement}
+use Rattle.root_event.proofs.string_in.Tie as tie
+use Rattle.root_event.proofs.string_in.Reads as reads
+use Rattle.root_event.proofs.string_in.Lts as lts
 
 enum-told : tie.Need-enum-told
 enum-told c = search needs

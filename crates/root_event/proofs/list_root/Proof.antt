@@ -1,14 +1,14 @@
 -- The root is read, and its value listed; its refusal has the place 0.
 -- Assumes nothing.
 use denote.Ref.{now}
-use Rattle.root.proofs.Cases.{root-value, root-refused}
+use Rattle.root_event.proofs.Cases.{root-value, root-refused}
 use borrow.Author.Needs.{needs}
-use Rattle.root.proofs.list_root.Statement.{statement}
-use Rattle.root.proofs.list_root.Tie as tie
-use Rattle.root.proofs.list_root.Reads as reads
-use Rattle.root.proofs.list_root.Lts as lts
+use Rattle.root_event.proofs.list_root.Statement.{statement}
+use Rattle.root_event.proofs.list_root.Tie as tie
+use Rattle.root_event.proofs.list_root.Reads as reads
+use Rattle.root_event.proofs.list_root.Lts as lts
 use Rattle.jsonb.proofs.deserialize.Reads as deserialize-reads
-use Rattle.root.proofs.list_value.Reads as list-value-reads
+use Rattle.root_event.proofs.list_value.Reads as list-value-reads
 
 deserialize-requires : tie.Need-deserialize-requires
 deserialize-requires c κs = search needs

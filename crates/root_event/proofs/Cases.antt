@@ -23,7 +23,7 @@ use Rattle.events.specs.Events.{noKey, eventOf}
 use Rattle.events.specs.Text.{isText, isTextual}
 use Rattle.events.specs.Listing.{end, fault, event}
 use Rattle.events.specs.Lay.{Laid, laid, lay}
-use Rattle.root.specs.Root.{stringOf, firstByte, spotOf, valueNode, readNode, rootNode}
+use Rattle.root_event.specs.Root.{stringOf, firstByte, spotOf, valueNode, readNode, rootNode}
 
 module _ (d : List ℕ) where
   pub empty-first : length d ≡ 0 → 0 ≡ firstByte d

@@ -1,13 +1,13 @@
 -- Of values only a scalar can be a string.
 -- Assumes nothing.
 use mathlib.Core.Path.{sym, ap, _∙_}
-use Rattle.root.specs.Root.{stringOf}
+use Rattle.root_event.specs.Root.{stringOf}
 use borrow.Author.Needs.{needs}
-use Rattle.root.proofs.string_of.Statement.{statement}
-use Rattle.root.proofs.string_of.Tie as tie
-use Rattle.root.proofs.string_of.Reads as reads
-use Rattle.root.proofs.string_of.Lts as lts
-use Rattle.root.proofs.string_in.Reads as string-in-reads
+use Rattle.root_event.proofs.string_of.Statement.{statement}
+use Rattle.root_event.proofs.string_of.Tie as tie
+use Rattle.root_event.proofs.string_of.Reads as reads
+use Rattle.root_event.proofs.string_of.Lts as lts
+use Rattle.root_event.proofs.string_in.Reads as string-in-reads
 
 enum-known-x : tie.Need-enum-known-x
 enum-known-x c = search needs
