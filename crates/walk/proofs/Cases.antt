@@ -9,7 +9,6 @@ use native.Mathlib.Omega.{arith}
 use lib.ListN.{length, getD, take, drop, length-set}
 use borrow.Author.Tests.{le-ltb, lt-ltb, ltb-false, eqb-true, eqb-false, eq-eqb, ne-eqb}
 use Rattle.layout.proofs.Cond.{yes, no}
-use Rattle.utf8.specs.Course.{run}
 use Rattle.value.specs.declared.Span.{Span}
 use Rattle.value.specs.declared.View.{View}
 use Rattle.value.specs.declared.Value.{Value}
@@ -35,6 +34,7 @@ use Rattle.events.specs.Text.{isText, isTextual}
 use Rattle.events.specs.declared.Event.{Event}
 use Rattle.events.specs.Listing.{end, fault, event}
 use Rattle.root_event.specs.Root.{firstByte, valueNode, readNode, rootNode}
+use Rattle.root_event.proofs.Cases.{no-key-text}
 use Rattle.walk.specs.Judged.{Judged, Stand, bad, good, spot, valueJudged, keyJudged, judged, node, childless}
 use Rattle.events.specs.Lay.{Laid, laid, lay, put, room}
 use Rattle.events.proofs.Cases.{room-for}
@@ -76,11 +76,6 @@ module _ (out : List ℕ) (n : ℕ) where
 -- the kind of an object or an array
 pub same-kind : (k : Kind) {b : Bool} → k .object ≡ b → kind b (k .large) ≡ k
 same-kind k e = ap (λ (b : Bool). kind b (k .large)) (sym e)
-
--- no key is text
-pub no-key-text : (d : List ℕ) → isText d noKey ≡ true
-unfolding isText run
-no-key-text d = sym (no _ (le-ltb (length d) 0 (omega arith)) refl)
 
 -- no walk both stops and is done
 pub never : {A : Type 0} {f p n m : ℕ} → Stopped f p n ≡ Done m → A
@@ -257,7 +252,7 @@ module _ (d out : List ℕ) where
   root-by : root ≡ root-at (rootRead d)
   root-by = key-text d 0 0 (rootStand d) 0 out 0 refl (no-key-text d)
 
-  -- it is listed as the crate root lists it
+  -- it is listed as the crate root_event lists it
   root-read : (y : Read) → root-at y ≡ lay (readNode d y) out 0
   unfolding valueNode firstByte
   root-read (read.Value x) = go (isTextual d x)

@@ -1,6 +1,7 @@
 -- An element has no key; what is seen of it is what its listing says.
 -- Assumes nothing.
-use Rattle.walk.proofs.Cases.{element-key, no-key-text, entry-stopped, entry-small, entry-open, entry-listed}
+use Rattle.root_event.proofs.Cases.{no-key-text}
+use Rattle.walk.proofs.Cases.{element-key, entry-stopped, entry-small, entry-open, entry-listed}
 use Rattle.layout.specs.declared.Kind.{Kind}
 use Rattle.layout.specs.Layout.{valuePlace}
 use native.Mathlib.Omega.{arith}
