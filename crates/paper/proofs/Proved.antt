@@ -24,8 +24,8 @@ use Rattle.gate.specs.Before.{matches, gated}
 use Rattle.utf8.specs.Course.{lead, run}
 use Rattle.events.specs.Events.{kindCode, bytesFrom}
 use Rattle.events.specs.Text.{isText}
-use Rattle.walk.specs.Paths.{gather, tree, paths, lastOf, said, scan}
-use Rattle.walk.specs.Shown.{cut, flat, ends, shown}
+use Rattle.paths.specs.Paths.{gather, tree, paths, lastOf, said, scan}
+use Rattle.paths.specs.Shown.{cut, flat, ends, shown}
 use Rattle.paper.specs.Paper.{Row, Thing, prints, printedOr, rootView, asked, table}
 
 pub proved : map (λ (r : Row × Said Thing). asked (r .0)) table ≡ map (λ (r : Row × Said Thing). r .1) table

@@ -26,7 +26,7 @@ use Rattle.gate.specs.Said.{Said, says, nothing, refuses, readSaid}
 use Rattle.jsonb.specs.Views.{rootRead, elemAt, keyAt}
 use Rattle.events.specs.declared.Walked.{Walked}
 use Rattle.events.specs.declared.Walked.the-variants.{Done, Stopped}
-use Rattle.walk.specs.Shown.{Answer as Ended, flat, told, ends, shown}
+use Rattle.paths.specs.Shown.{Answer as Ended, flat, told, ends, shown}
 
 pub data Row : Type 0 where
   -- a packed decimal, with its precision kept or not

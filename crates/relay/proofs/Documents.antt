@@ -15,7 +15,7 @@ use Rattle.gate.specs.Said.{Said, refuses}
 use Rattle.gate.specs.Before.{names, matches, gated}
 use Rattle.events.specs.declared.Walked.{Walked}
 use Rattle.events.specs.declared.Walked.the-variants.{Done, Stopped}
-use Rattle.walk.specs.Shown.{Walks}
+use Rattle.paths.specs.Shown.{Walks}
 use Rattle.walk_laws.proofs.Small.{done-small, stopped-small, stopped-near}
 use Rattle.value.specs.declared.View.{View}
 use Rattle.relay.specs.Documents.{kindBy, nowhere, viewBy, endTold, walkTold, walkLeaves, Small}

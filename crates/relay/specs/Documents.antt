@@ -11,7 +11,7 @@ use Rattle.content.specs.Reading.{kind, view}
 use Rattle.events.specs.Lay.{room}
 use Rattle.events.specs.declared.Walked.{Walked}
 use Rattle.events.specs.declared.Walked.the-variants.{Done, Stopped}
-use Rattle.walk.specs.Shown.{Answer, ends, shown, over}
+use Rattle.paths.specs.Shown.{Answer, ends, shown, over}
 
 -- ---- a view by its numbers: the type code says its kind, 0 small object, 1 large object, 2 small array, 3 large array. Any other code is no
 -- container's, and gives a view that no document within the limit has: 1, then 13

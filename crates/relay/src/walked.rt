@@ -4,7 +4,7 @@ ghost use mathlib.Core.Path.{_≡_};
 ghost use mathlib.Core.List.{[], _∷_};
 ghost use Prim.Native.Nat.{_≤_};
 ghost use lib.ListN.{length};
-ghost use Rattle.walk.specs.Shown.{told};
+ghost use Rattle.paths.specs.Shown.{told};
 ghost use Rattle.rows.specs.Layout.{laid, Relays};
 ghost use Rattle.relay.specs.Documents.{endTold, Small};
 

@@ -35,15 +35,16 @@ use Rattle.events.specs.declared.Event.{Event}
 use Rattle.events.specs.Listing.{end, fault, event}
 use Rattle.root_event.specs.Root.{firstByte, valueNode, readNode, rootNode}
 use Rattle.root_event.proofs.Cases.{no-key-text}
-use Rattle.walk.specs.Judged.{Judged, Stand, bad, good, spot, valueJudged, keyJudged, judged, node, childless}
+use Rattle.paths.specs.Judged.{Judged, Stand, bad, good, spot, valueJudged, keyJudged, judged, node, childless}
 use Rattle.events.specs.Lay.{Laid, laid, lay, put, room}
 use Rattle.events.proofs.Cases.{room-for}
 use Rattle.sight.specs.declared.Sight.{Sight}
 use Rattle.sight.specs.Sights.{sightOf, sightAt}
 use Rattle.sight.specs.Course.{Fit}
 use Rattle.sight.proofs.Laws.{sight-entry, entry-sound, root-sound}
-use Rattle.walk.specs.Paths.{rootStand}
-use Rattle.walk.specs.Course.{entryStand, leadsBy, leadsTo}
+use Rattle.paths.specs.Paths.{rootStand}
+use Rattle.paths.specs.Levels.{entryStand}
+use Rattle.walk.specs.Course.{leadsBy, leadsTo}
 use Rattle.walk.specs.Tested.{Last, Listed}
 use Rattle.walk.specs.Seen.{seenNumber, seenLeaves, seenEvent, putSeen, putPath, leadsIn, stoppedAt}
 use Rattle.walk.specs.declared.Child.{Child}

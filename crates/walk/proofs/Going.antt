@@ -18,9 +18,9 @@ use Rattle.entry.specs.Entries.{placeAt, entryRead}
 use Rattle.gate.specs.Said.{readSaid}
 use Rattle.events.specs.declared.Walked.{Walked}
 use Rattle.events.specs.declared.Walked.the-variants.{Done, Stopped}
-use Rattle.walk.specs.Judged.{judged, node, childless}
+use Rattle.paths.specs.Judged.{judged, node, childless}
 use Rattle.events.specs.Listing.{Listing}
-use Rattle.walk.specs.Course.{_then_, entries, entryStand, entryListing, children}
+use Rattle.paths.specs.Levels.{_then_, entries, entryStand, entryListing, children}
 use Rattle.events.specs.Lay.{Laid, laid, lay}
 use Rattle.walk.specs.Tested.{Last, Kept}
 use Rattle.walk.proofs.Node.{next, lay-then, below, apart}

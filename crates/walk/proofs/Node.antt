@@ -21,11 +21,12 @@ use Rattle.events.specs.declared.Walked.{Walked}
 use Rattle.events.specs.declared.Walked.the-variants.{Done, Stopped}
 use Rattle.events.specs.Events.{eventOf}
 use Rattle.events.specs.Text.{isText, isTextual}
-use Rattle.walk.specs.Judged.{Stand, Judged, bad, good, spot, valueJudged, keyJudged, judged, node, childless}
+use Rattle.paths.specs.Judged.{Stand, Judged, bad, good, spot, valueJudged, keyJudged, judged, node, childless}
 use Rattle.events.specs.Listing.{Listing, end, fault, event}
-use Rattle.walk.specs.Course.{_then_, entries, children, listing, leadsBy, leadsOf, leadsTo}
+use Rattle.paths.specs.Levels.{_then_, entries, children, listing}
+use Rattle.walk.specs.Course.{leadsBy, leadsOf, leadsTo}
 use Rattle.events.specs.Lay.{Laid, laid, lay, put, room}
-use Rattle.walk.specs.Paths.{rootStand}
+use Rattle.paths.specs.Paths.{rootStand}
 use Rattle.walk.specs.Tested.{Last, Kept}
 use Rattle.walk.specs.declared.Leads.{Leads}
 use Rattle.walk.specs.declared.Leads.the-variants.{Array, Object, Nothing}

@@ -36,13 +36,13 @@ use Rattle.events.proofs.Cases.{run-of-stores}
 use Rattle.sight.specs.declared.Sight.{Sight}
 use Rattle.sight.specs.Sights.{sightOf}
 use Rattle.sight.specs.Course.{Sound, SoundValue}
-use Rattle.walk.specs.Judged.{bad, good, spot, valueJudged, node, childless}
+use Rattle.paths.specs.Judged.{bad, good, spot, valueJudged, node, childless}
 use Rattle.walk.specs.Course.{leadsBy, leadsOf, leadsTo}
 use Rattle.walk.specs.Tested.{Last}
 use Rattle.walk.specs.Seen.{seenText, seenNumber, seenEvent, putSeen, putPath, seenLeaves, leadsIn}
 use Rattle.walk.specs.declared.Leads.{Leads}
 use Rattle.walk.specs.declared.Leads.the-variants.{Array, Object, Nothing}
-use Rattle.walk.proofs.Laid.{room-fits}
+use Rattle.paths.proofs.Laid.{room-fits}
 
 -- ---- an event in two parts
 -- a store goes before three others

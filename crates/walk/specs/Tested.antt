@@ -11,9 +11,10 @@ use Rattle.events.specs.declared.Walked.{Walked}
 use Rattle.events.specs.declared.Walked.the-variants.{Done, Stopped}
 use Rattle.events.specs.Events.{span}
 use Rattle.events.specs.Text.{isText}
-use Rattle.walk.specs.Judged.{judged, node, childless}
+use Rattle.paths.specs.Judged.{judged, node, childless}
 use Rattle.events.specs.Lay.{lay, laid}
-use Rattle.walk.specs.Course.{entryStand, leadsTo}
+use Rattle.paths.specs.Levels.{entryStand}
+use Rattle.walk.specs.Course.{leadsTo}
 use Rattle.walk.specs.declared.Child.{Child}
 
 -- what the last of n events shows was tested: its key, and its value where that is a string

@@ -19,10 +19,11 @@ ghost use Rattle.events.specs.Text.{isText};
 ghost use Rattle.events.specs.Lay.{lay, laid, room as roomOf};
 ghost use Rattle.sight.specs.Sights.{sightAt};
 ghost use Rattle.sight.specs.Course.{Fit};
-ghost use Rattle.walk.specs.Course.{children, leadsBy};
+ghost use Rattle.paths.specs.Levels.{children};
+ghost use Rattle.walk.specs.Course.{leadsBy};
 ghost use Rattle.walk.specs.Tested.{Last, Kept, Listed};
 ghost use Rattle.walk.specs.Seen.{seenText, seenNumber, seenLeaves, putPath, leadsIn, stoppedAt};
-ghost use Rattle.walk.specs.Shown.{Walks};
+ghost use Rattle.paths.specs.Shown.{Walks};
 
 // What a value leads to: the elements of an array, the members of an object, or nothing.
 enum Leads {

@@ -17,11 +17,11 @@ use Rattle.jsonb.specs.Views.{rootRead}
 use Rattle.events.specs.declared.Walked.{Walked}
 use Rattle.events.specs.declared.Walked.the-variants.{Done, Stopped}
 use Rattle.events.specs.Events.{noKey, wide}
-use Rattle.walk.specs.Judged.{Stand}
+use Rattle.paths.specs.Judged.{Stand}
 use Rattle.events.specs.Lay.{room}
-use Rattle.walk.specs.Paths.{rootStand, child, viewIn, countIn, here, down, Item, item, under, gather, tree, paths}
-use Rattle.walk.specs.Shown.{Walks}
-use Rattle.walk.proofs.Laid.{room-fits}
+use Rattle.paths.specs.Paths.{rootStand, child, viewIn, countIn, here, down, Item, item, under, gather, tree, paths}
+use Rattle.paths.specs.Shown.{Walks}
+use Rattle.paths.proofs.Laid.{room-fits}
 use Rattle.walk_laws.specs.Promise.{IsUtf8, Leads, Readable, AllRead, Everything, UpTo101, eventsOf, written, value-refused, wrong, Halt, Room}
 use Rattle.walk_laws.proofs.Reach.{reach}
 use Rattle.walk_laws.proofs.Stops.{events-length, stop-room}

@@ -23,11 +23,11 @@ use Rattle.jsonb.specs.Views.{rootRead}
 use Rattle.events.specs.declared.Spot.{Spot}
 use Rattle.events.specs.Events.{noKey, eventOf}
 use Rattle.events.specs.Text.{isText, isTextual}
-use Rattle.walk.specs.Judged.{Stand, Judged, bad, good, spot, valueJudged, keyJudged, judged}
-use Rattle.walk.specs.Paths.{viewIn, Below, here, down, Item, lastOf, said}
-use Rattle.walk.specs.Course.{entryStand}
-use Rattle.walk.proofs.Whole.{SaidStands, root-stands, elem-stands, entry-child}
-use Rattle.walk.proofs.Scan.{said-deep, said-near}
+use Rattle.paths.specs.Judged.{Stand, Judged, bad, good, spot, valueJudged, keyJudged, judged}
+use Rattle.paths.specs.Paths.{viewIn, Below, here, down, Item, lastOf, said}
+use Rattle.paths.specs.Levels.{entryStand}
+use Rattle.paths.proofs.Whole.{SaidStands, root-stands, elem-stands, entry-child}
+use Rattle.paths.proofs.Scan.{said-deep, said-near}
 use Rattle.walk_laws.specs.Promise.{Leads, keyIn, valueIn, eventAt, Good, Wrong, deep, key-refused, key-octets, value-refused, value-octets}
 use Rattle.walk_laws.proofs.Text.{text-test, value-test, refuted, denied}
 

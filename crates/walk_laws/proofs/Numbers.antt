@@ -53,10 +53,10 @@ use Rattle.jsonb.specs.Views.{typedAt, rootRead, elemAt, keyAt}
 use Rattle.events.specs.declared.Walked.{Walked}
 use Rattle.events.specs.declared.Walked.the-variants.{Stopped}
 use Rattle.events.specs.Events.{noKey}
-use Rattle.walk.specs.Judged.{Stand}
-use Rattle.walk.specs.Paths.{rootStand, child, viewIn, countIn, Below, here, down, Item, paths}
-use Rattle.walk.specs.Shown.{Walks}
-use Rattle.walk.proofs.Whole.{Stands, SaidStands, root-stands, elem-stands}
+use Rattle.paths.specs.Judged.{Stand}
+use Rattle.paths.specs.Paths.{rootStand, child, viewIn, countIn, Below, here, down, Item, paths}
+use Rattle.paths.specs.Shown.{Walks}
+use Rattle.paths.proofs.Whole.{Stands, SaidStands, root-stands, elem-stands}
 use Rattle.walk_laws.specs.Promise.{Leads, UpTo101, Wrong, deep, key-refused, key-octets, value-refused, value-octets, StopsAt, wrong, full, Halt}
 use Rattle.walk_laws.proofs.Reach.{reach}
 use Rattle.walk_laws.proofs.Theorem.{refusal}

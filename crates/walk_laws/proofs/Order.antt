@@ -8,7 +8,7 @@ use native.Mathlib.Omega.{arith}
 use lib.Dec.{ltb}
 use mathlib.Core.Bool.{Bool, true, false}
 use borrow.Author.Tests.{ltb-true, ltb-false}
-use Rattle.walk.specs.Paths.{Before, prefix, lower, inside, Item}
+use Rattle.paths.specs.Paths.{Before, prefix, lower, inside, Item}
 use Rattle.walk_laws.specs.Promise.{Ascending, StrictOrder, OneList}
 
 -- ---- a strict and total order

@@ -7,8 +7,8 @@ use mathlib.Core.List.{List·Memᴰ·append-cases, Memᴰ·append-left, Memᴰ·
 use Prim.Native.Nat.{ℕ, zero, suc, _+_, _≤_, _<_}
 use native.Mathlib.Omega.{arith}
 use lib.ListN.{length}
-use Rattle.walk.specs.Judged.{Stand}
-use Rattle.walk.specs.Paths.{rootStand, child, viewIn, countIn, Below, here, down, Before, prefix, lower, inside, Item, item, under, gather, tree, paths}
+use Rattle.paths.specs.Judged.{Stand}
+use Rattle.paths.specs.Paths.{rootStand, child, viewIn, countIn, Below, here, down, Before, prefix, lower, inside, Item, item, under, gather, tree, paths}
 use Rattle.walk_laws.specs.Promise.{Ascending, UpTo101, OnePlace}
 
 -- ---- members of a gathered list

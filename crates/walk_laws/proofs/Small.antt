@@ -20,10 +20,10 @@ use Rattle.events.specs.declared.Walked.the-variants.{Done, Stopped}
 use Rattle.events.specs.Events.{wide}
 use Rattle.events.specs.Listing.{Listing, end, fault, event}
 use Rattle.events.specs.Lay.{room}
-use Rattle.walk.specs.Judged.{Stand}
-use Rattle.walk.specs.Paths.{here, Item, paths, scan}
-use Rattle.walk.specs.Shown.{cut, ends, shown, Walks, Answer}
-use Rattle.walk.proofs.Whole.{Stands}
+use Rattle.paths.specs.Judged.{Stand}
+use Rattle.paths.specs.Paths.{here, Item, paths, scan}
+use Rattle.paths.specs.Shown.{cut, ends, shown, Walks, Answer}
+use Rattle.paths.proofs.Whole.{Stands}
 use Rattle.walk_laws.specs.Promise.{Leads, Wrong, deep, key-refused, key-octets, value-refused, value-octets, StopsAt, wrong, full}
 use Rattle.walk_laws.proofs.Reach.{reach}
 use Rattle.walk_laws.proofs.Theorem.{refusal}

@@ -7,11 +7,11 @@ use Prim.Native.Nat.{ℕ, zero, suc, _+_, _*_, _-_, _≤_}
 use native.Mathlib.Omega.{arith}
 use lib.ListN.{length, drop, length-append}
 use Rattle.events.specs.Events.{numbers, wide}
-use Rattle.walk.specs.Judged.{Judged, node}
+use Rattle.paths.specs.Judged.{Judged, node}
 use Rattle.events.specs.Listing.{Listing, end, fault, event}
-use Rattle.walk.specs.Paths.{Item, scan}
-use Rattle.walk.specs.Shown.{cut, flat, over}
-use Rattle.walk.proofs.Laid.{walked}
+use Rattle.paths.specs.Paths.{Item, scan}
+use Rattle.paths.specs.Shown.{cut, flat, over}
+use Rattle.paths.proofs.Laid.{walked}
 use Rattle.walk_laws.specs.Promise.{eventAt, eventsOf, written, Good, Wrong, StopsAt, wrong, full, Halt}
 use Rattle.walk_laws.proofs.Judge.{Answered, verdict, good-said, wrong-said}
 

@@ -9,12 +9,12 @@ use native.Mathlib.Decide.{decLe}
 use lib.ListN.{length}
 use Rattle.events.specs.declared.Walked.{Walked}
 use Rattle.events.specs.declared.Walked.the-variants.{Done, Stopped}
-use Rattle.walk.specs.Judged.{Stand}
+use Rattle.paths.specs.Judged.{Stand}
 use Rattle.events.specs.Listing.{Listing as Laying, end, fault}
 use Rattle.events.specs.Lay.{room}
-use Rattle.walk.specs.Paths.{Below, here, down, Item, item, paths}
-use Rattle.walk.specs.Shown.{flat, over, shown, Walks}
-use Rattle.walk.proofs.Laid.{walked, walked-told, told-same}
+use Rattle.paths.specs.Paths.{Below, here, down, Item, item, paths}
+use Rattle.paths.specs.Shown.{flat, over, shown, Walks}
+use Rattle.paths.proofs.Laid.{walked, walked-told, told-same}
 use Rattle.walk_laws.specs.Promise.{Leads, AllRead, Everything, UpTo101, eventAt, namesAfter, written, Good, Halt}
 use Rattle.walk_laws.specs.Promise.{Success, Listing, Refusal, Untouched, Paths, OneAnswer, WalkTheorem}
 use Rattle.walk_laws.proofs.Order.{strict-order, one-list}

@@ -22,10 +22,10 @@ use Rattle.events.specs.declared.Walked.{Walked}
 use Rattle.events.specs.declared.Walked.the-variants.{Done, Stopped}
 use Rattle.events.specs.Events.{noKey, eventOf, numbers, wide}
 use Rattle.events.specs.Text.{bytes, isText}
-use Rattle.walk.specs.Judged.{Stand, spot}
+use Rattle.paths.specs.Judged.{Stand, spot}
 use Rattle.events.specs.Lay.{room}
-use Rattle.walk.specs.Paths.{rootStand, Below, Before, Item, item, lastOf, paths}
-use Rattle.walk.specs.Shown.{Walks}
+use Rattle.paths.specs.Paths.{rootStand, Below, Before, Item, item, lastOf, paths}
+use Rattle.paths.specs.Shown.{Walks}
 
 -- ---- keys and strings are UTF-8: the part lies in the document, and its bytes are in RFC 3629's grammar
 pub record IsUtf8 (d : List ℕ) (s : Span) : Type 0 where

@@ -6,7 +6,7 @@ use native.Mathlib.Omega.{arith}
 use Rattle.jsonb.specs.Views.{rootRead}
 use Rattle.sight.proofs.Laws.{root-fit}
 use Rattle.walk.proofs.Node.{array-so, object-so, nothing-so, container-below, nothing-below, root-stopped, root-done}
-use Rattle.walk.proofs.Bridge.{walks}
+use Rattle.paths.proofs.Bridge.{walks}
 use Rattle.walk.proofs.Cases.{root-node, rooted}
 use borrow.Author.Needs.{needs}
 use Rattle.walk.proofs.walk.Statement.{statement}

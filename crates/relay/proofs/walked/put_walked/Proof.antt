@@ -2,7 +2,7 @@
 -- Assumes that the lent list is long enough and that the numbers fit, which its contract requires.
 use mathlib.Core.Path.{refl, sym, ap, subst}
 use Rattle.events.specs.declared.Walked.{Walked}
-use Rattle.walk.specs.Shown.{told}
+use Rattle.paths.specs.Shown.{told}
 use Rattle.relay.specs.Documents.{endTold, Small}
 use Rattle.rows.proofs.Puts.{stores}
 use borrow.Author.Needs.{needs}

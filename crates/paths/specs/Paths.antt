@@ -14,7 +14,7 @@ use Rattle.entry.specs.Entries.{placeAt, keyPlaceAt, valueStart}
 use Rattle.gate.specs.Said.{Said, says, nothing, refuses, readSaid}
 use Rattle.jsonb.specs.Views.{rootRead, elemAt, keyAt}
 use Rattle.events.specs.Events.{noKey}
-use Rattle.walk.specs.Judged.{Stand, Judged, bad, judged, node}
+use Rattle.paths.specs.Judged.{Stand, Judged, bad, judged, node}
 use Rattle.events.specs.Listing.{Listing, end}
 
 -- ---- what stands at the root and at a position of a container. The root has no entry: its place is 0, and its value

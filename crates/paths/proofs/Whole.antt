@@ -51,9 +51,9 @@ use Rattle.gate.specs.Before.{names, matches, gated, Whole, gateOf}
 use Rattle.gate.specs.declared.Gate.the-variants.{Open}
 use Rattle.gate.proofs.Gates.{open-whole, whole-entry, whole-key}
 use Rattle.events.specs.Events.{noKey}
-use Rattle.walk.specs.Judged.{Stand}
-use Rattle.walk.specs.Paths.{rootStand, child, viewIn, countIn}
-use Rattle.walk.specs.Course.{entryStand}
+use Rattle.paths.specs.Judged.{Stand}
+use Rattle.paths.specs.Paths.{rootStand, child, viewIn, countIn}
+use Rattle.paths.specs.Levels.{entryStand}
 
 -- a view of a whole container in a document that is not too long
 pub record Stands (d : List ℕ) (v : View) : Type 0 where

@@ -6,11 +6,11 @@ use Prim.Native.Nat.{ℕ}
 use Rattle.events.specs.declared.Walked.{Walked}
 use Rattle.events.specs.Listing.{Listing}
 use Rattle.events.specs.Lay.{laid, lay}
-use Rattle.walk.specs.Paths.{paths, scan}
-use Rattle.walk.specs.Course.{listing}
-use Rattle.walk.specs.Shown.{shown, Walks}
-use Rattle.walk.proofs.Laid.{laid-answer, laid-leaves}
-use Rattle.walk.proofs.Scan.{listing-scan}
+use Rattle.paths.specs.Paths.{paths, scan}
+use Rattle.paths.specs.Levels.{listing}
+use Rattle.paths.specs.Shown.{shown, Walks}
+use Rattle.paths.proofs.Laid.{laid-answer, laid-leaves}
+use Rattle.paths.proofs.Scan.{listing-scan}
 
 pub walks : (d out : List ℕ) {r : Walked} {left : List ℕ} → lay (listing d) out 0 ≡ laid r left → Walks d out r left
 unfolding shown

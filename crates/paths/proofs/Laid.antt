@@ -15,7 +15,7 @@ use Rattle.events.specs.declared.Walked.the-variants.{Done, Stopped}
 use Rattle.events.specs.Events.{numbers, wide}
 use Rattle.events.specs.Listing.{Listing, end, fault, event}
 use Rattle.events.specs.Lay.{Laid, laid, lay, put, room}
-use Rattle.walk.specs.Shown.{cut, flat, Answer, told, ends, over}
+use Rattle.paths.specs.Shown.{cut, flat, Answer, told, ends, over}
 
 -- ---- how a listing ends, as a case of the code's answer
 unfoldable pub walked : Listing → ℕ → Walked

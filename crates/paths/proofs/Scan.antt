@@ -15,13 +15,13 @@ use Rattle.value.specs.declared.Value.{Value}
 use Rattle.entry.specs.Entries.{placeAt}
 use Rattle.gate.specs.Said.{Said, says, nothing, refuses}
 use Rattle.events.specs.Events.{eventOf}
-use Rattle.walk.specs.Judged.{Stand, Judged, bad, good, spot, valueJudged, keyJudged, judged, node}
+use Rattle.paths.specs.Judged.{Stand, Judged, bad, good, spot, valueJudged, keyJudged, judged, node}
 use Rattle.events.specs.Text.{isText, isTextual}
 use Rattle.events.specs.declared.Spot.{Spot}
 use Rattle.events.specs.Listing.{Listing, end, fault, event}
-use Rattle.walk.specs.Course.{_then_, entries, entryStand, entryListing, children, listing}
-use Rattle.walk.specs.Paths.{rootStand, child, viewIn, countIn, Item, item, under, gather, tree, paths, lastOf, said, scan}
-use Rattle.walk.proofs.Whole.{SaidStands, root-stands, elem-stands, entry-child}
+use Rattle.paths.specs.Levels.{_then_, entries, entryStand, entryListing, children, listing}
+use Rattle.paths.specs.Paths.{rootStand, child, viewIn, countIn, Item, item, under, gather, tree, paths, lastOf, said, scan}
+use Rattle.paths.proofs.Whole.{SaidStands, root-stands, elem-stands, entry-child}
 
 -- an item seen from the end of a path above it
 abbrev behind : List ℕ → Item → Item

@@ -10,7 +10,7 @@ use Rattle.events.specs.declared.Walked.the-variants.{Done, Stopped}
 use Rattle.events.specs.Events.{numbers}
 use Rattle.events.specs.Listing.{Listing, end, fault, event}
 use Rattle.events.specs.Lay.{room}
-use Rattle.walk.specs.Paths.{paths, scan}
+use Rattle.paths.specs.Paths.{paths, scan}
 
 -- a listing with room for so many events: 12 at the first that finds none
 unfoldable pub cut : Listing → ℕ → Listing

@@ -1,0 +1,4 @@
+pub mod Laid
+pub mod Whole
+pub mod Scan
+pub mod Bridge
