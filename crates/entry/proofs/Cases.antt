@@ -21,7 +21,7 @@ use Rattle.content.specs.declared.Read.{Read}
 use Rattle.content.specs.declared.Read.the-variants as read
 use Rattle.content.specs.declared.Part.{Part}
 use Rattle.content.specs.declared.Part.the-variants as part
-use Rattle.entry.specs.Entries.{isInlined, pointedAt, typedEntry, entryOf, endOf, placeAt, valueEnd, entryAt, entryRead, keyOffset, keyLength, keyOf, keyPlaceAt, keyEnd, keyEntryAt, keyRead, startOf, typedStart, valueStart}
+use Rattle.entry.specs.Entries.{isInlined, pointedAt, typedEntry, entryOf, endOf, valueEnd, entryAt, entryRead, keyOffset, keyLength, keyOf, keyPlaceAt, keyEnd, keyEntryAt, keyRead}
 
 -- a value at its offset; o and w are the offset and the offset size as callees give them
 module _ (d : List ℕ) (v : View) (t : JsonbType) (body : ℕ) {o w : ℕ}
@@ -118,19 +118,3 @@ module _ (d : List ℕ) (v : View) (i : ℕ) {p w f : ℕ} (pe : p ≡ keyPlace 
   pub key-right : {r : Part} → f ≡ 0 → r ≡ keyOf d v (v .start + p) → r ≡ keyRead d v i
   unfolding keyRead keyEntryAt
   key-right z q = placed-right d (keyEnd v i) (endOf v) key-fault-is part.Refused z (rw pe at q)
-
--- where a scalar starts; the entry's place p and whether the value stands in it, b, as callees give them
-module _ (d : List ℕ) (v : View) (i : ℕ) (t : JsonbType) {p : ℕ} {b : Bool} (pe : p ≡ placeAt v i) (be : b ≡ isInlined t (v .kind .large)) where
-  pub start-inlined : b ≡ true → p + 1 ≡ startOf d v i t
-  unfolding startOf
-  start-inlined x = yes _ (sym be ∙ x) (ap (λ (q : ℕ). q + 1) pe)
-
-  pub start-pointed : {o : ℕ} → b ≡ false → o ≡ offsetAt d (v .kind) (p + 1) (endOf v) → v .start + o ≡ startOf d v i t
-  unfolding startOf
-  start-pointed x oe = no _ (sym be ∙ x) (ap (λ (q : ℕ). v .start + q) (rw pe at oe))
-
--- its type y, read at the entry's place p, as callees give them
-pub value-start-is : (d : List ℕ) (v : View) (i : ℕ) {p : ℕ} {y z : TypeOf} → p ≡ placeAt v i → y ≡ typeOf (getD d p 0) → y ≡ z →
-    typedStart d v i z ≡ valueStart d v i
-unfolding valueStart
-value-start-is d v i pe ye yz = ap (typedStart d v i) (sym yz ∙ ye ∙ ap (λ (q : ℕ). typeOf (getD d q 0)) pe)

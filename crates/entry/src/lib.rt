@@ -11,7 +11,7 @@ ghost use lib.ListN.{length, getD};
 ghost use Rattle.codes.specs.Types.{typeOf};
 ghost use Rattle.layout.specs.Layout.{offsetSize};
 ghost use Rattle.content.specs.Course.{Within};
-ghost use Rattle.entry.specs.Entries.{endOf, isInlined, placeAt, pointedAt, typedEntry, entryOf, keyOf, keyPlaceAt, entryRead, keyRead, startOf, valueStart};
+ghost use Rattle.entry.specs.Entries.{endOf, isInlined, placeAt, pointedAt, typedEntry, entryOf, keyOf, entryRead, keyRead};
 
 // Whether values of a type stand in their entry.
 fn is_inlined(t: JsonbType, large: bool) -> bool
@@ -133,45 +133,4 @@ pub fn value_place(v: View, i: u32) -> usize
 {
     let k = v.kind;
     v.start as usize + k.value_place(v.count, i)
-}
-
-// Where key entry i stands.
-pub fn key_place(v: View, i: u32) -> usize
-    ensures { λ r. ⌜ r ≡ keyPlaceAt v i ⌝ }
-    ensures { λ r. ⌜ r < 73014444032 ⌝ }
-{
-    let k = v.kind;
-    v.start as usize + k.key_place(i)
-}
-
-// Where a value of a type in entry i starts: in the entry, or at its offset.
-fn typed_start(doc: &[u8], v: View, i: u32, t: JsonbType) -> usize
-    ensures { λ r. ⌜ r ≡ startOf (now (doc .entry)) v i t ⌝ }
-{
-    let k = v.kind;
-    let start = v.start as usize;
-    let body = value_place(v, i) + 1;
-    if is_inlined(t, k.large) {
-        return body;
-    }
-    start + layout::offset_at(doc, k, body, start + v.size as usize) as usize
-}
-
-fn type_at(doc: &[u8], at: usize) -> TypeOf
-    ensures { λ r. ⌜ r ≡ typeOf (getD (now (doc .entry)) at 0) ⌝ }
-{
-    if doc.len() <= at {
-        return JsonbType::of(0);
-    }
-    JsonbType::of(doc[at])
-}
-
-// Where the value of entry i starts.
-pub fn value_start(doc: &[u8], v: View, i: u32) -> usize
-    ensures { λ r. ⌜ r ≡ valueStart (now (doc .entry)) v i ⌝ }
-{
-    match type_at(doc, value_place(v, i)) {
-        TypeOf::Known(t) => typed_start(doc, v, i, t),
-        TypeOf::Refused(_) => 0,
-    }
 }
