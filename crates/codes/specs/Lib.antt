@@ -1,4 +1,3 @@
 pub mod Lists
 pub mod Types
 pub mod Literals
-pub mod Columns

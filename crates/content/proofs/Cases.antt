@@ -15,11 +15,11 @@ use Rattle.raw.specs.declared.Length.{Length}
 use Rattle.raw.specs.declared.Length.the-variants.{Field}
 use Rattle.raw.specs.declared.Length.the-variants as raw
 use Rattle.raw.proofs.Bounds.{Placed, length-placed}
-use Rattle.codes.specs.Columns.{typeOf as columnType}
+use Rattle.columns.specs.Columns.{typeOf as columnType}
 use Rattle.codes.specs.declared.types.JsonbType.{JsonbType}
-use Rattle.codes.specs.declared.columns.ColumnType.{ColumnType}
-use Rattle.codes.specs.declared.columns.ColumnOf.{ColumnOf}
-use Rattle.codes.specs.declared.columns.ColumnOf.the-variants as column-of
+use Rattle.columns.specs.declared.ColumnType.{ColumnType}
+use Rattle.columns.specs.declared.ColumnOf.{ColumnOf}
+use Rattle.columns.specs.declared.ColumnOf.the-variants as column-of
 use Rattle.layout.specs.declared.Kind.{Kind}
 use Rattle.value.specs.declared.Number.{Number}
 use Rattle.content.specs.declared.Header.{Header}

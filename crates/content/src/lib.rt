@@ -1,10 +1,10 @@
 // What stands at a place of a document: a scalar, or a container's view. Positions are absolute in the document; `end` is the end of the enclosing
 // container.
-use codes::ColumnOf;
-use codes::ColumnType;
 use codes::JsonbType;
 use codes::LiteralOf;
 use codes::LiteralType;
+use columns::ColumnOf;
+use columns::ColumnType;
 use layout::Kind;
 use layout::offset_at;
 use raw::Length;

@@ -6,7 +6,7 @@ use mathlib.Core.Bool.{cond}
 use mathlib.Core.List.{List, [], _∷_}
 use lib.Dec.{eqb}
 use Rattle.codes.specs.Types.{codeOf as typeCode}
-use Rattle.codes.specs.Columns.{codeOf as columnCode}
+use Rattle.columns.specs.Columns.{codeOf as columnCode}
 use Rattle.codes.specs.declared.types.JsonbType.{JsonbType}
 use Rattle.codes.specs.declared.types.JsonbType.the-variants as type
 use Rattle.layout.specs.declared.Kind.{Kind}

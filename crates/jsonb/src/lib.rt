@@ -2,8 +2,8 @@
 mod root;
 mod views;
 
-pub use codes::ColumnType;
 pub use codes::JsonbType;
+pub use columns::ColumnType;
 pub use content::Read;
 pub use gate::Found;
 pub use gate::Key;

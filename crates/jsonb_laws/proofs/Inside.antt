@@ -14,7 +14,7 @@ use Rattle.refusal.specs.Told.{answer, refusal}
 use Rattle.raw.specs.Length.{Groups, groups, got, short, long, fieldOf, lengthAt}
 use Rattle.raw.proofs.Bounds.{length-placed}
 use Rattle.codes.specs.Literals.{typeOf as literalType}
-use Rattle.codes.specs.Columns.{typeOf as columnType}
+use Rattle.columns.specs.Columns.{typeOf as columnType}
 use Rattle.codes.specs.Types.{typeOf}
 use Rattle.codes.specs.declared.types.JsonbType.{JsonbType}
 use Rattle.codes.specs.declared.types.JsonbType.the-variants as type
@@ -23,9 +23,9 @@ use Rattle.codes.specs.declared.types.TypeOf.the-variants as type-of
 use Rattle.codes.specs.declared.literals.LiteralType.the-variants as literal
 use Rattle.codes.specs.declared.literals.LiteralOf.{LiteralOf}
 use Rattle.codes.specs.declared.literals.LiteralOf.the-variants as literal-of
-use Rattle.codes.specs.declared.columns.ColumnType.{ColumnType}
-use Rattle.codes.specs.declared.columns.ColumnOf.{ColumnOf}
-use Rattle.codes.specs.declared.columns.ColumnOf.the-variants as column-of
+use Rattle.columns.specs.declared.ColumnType.{ColumnType}
+use Rattle.columns.specs.declared.ColumnOf.{ColumnOf}
+use Rattle.columns.specs.declared.ColumnOf.the-variants as column-of
 use Rattle.layout.specs.Layout.{offsetSize, headerSize, offsetAt}
 use Rattle.content.specs.Reading.{kind, span, viewed, containerAt, headerAt, literalOf, literalAt, numberAt, parted, partAt, partOf, stringAt}
 use Rattle.content.specs.Reading.{opaqueOf, opaqueAt, contentAt, placeFault, readAt}

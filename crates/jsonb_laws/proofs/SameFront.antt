@@ -16,7 +16,7 @@ use Rattle.raw.specs.Numbers.{le}
 use Rattle.raw.specs.Length.{groups}
 use Rattle.raw.proofs.Bounds.{le-same}
 use Rattle.codes.specs.Literals.{typeOf as literalType}
-use Rattle.codes.specs.Columns.{typeOf as columnType}
+use Rattle.columns.specs.Columns.{typeOf as columnType}
 use Rattle.codes.specs.Types.{typeOf}
 use Rattle.codes.specs.declared.types.JsonbType.{JsonbType}
 use Rattle.codes.specs.declared.types.JsonbType.the-variants as type

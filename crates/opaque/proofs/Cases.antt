@@ -9,8 +9,8 @@ use lib.ListN.{length, take, drop}
 use borrow.Author.Tests.{lt-ltb, le-ltb, eq-eqb, ne-eqb}
 use Rattle.decimal.specs.Read.{refused, readPacked}
 use Rattle.layout.proofs.Cond.{yes, no}
-use Rattle.codes.specs.Columns.{codeOf}
-use Rattle.codes.specs.declared.columns.ColumnType.{ColumnType}
+use Rattle.columns.specs.Columns.{codeOf}
+use Rattle.columns.specs.declared.ColumnType.{ColumnType}
 use Rattle.value.specs.declared.Span.{Span}
 use Rattle.opaque.specs.declared.DecimalPart.the-variants.{Bytes, Nothing}
 use Rattle.opaque.specs.Handed.{columnPart, opaqueDecimal}

@@ -8,8 +8,8 @@ use lib.Dec.{ltb, eqb}
 use lib.ListN.{length, take, drop}
 use Rattle.decimal.specs.Read.{refused, readPacked}
 use Rattle.decimal.specs.declared.Answer.{Answer}
-use Rattle.codes.specs.Columns.{codeOf}
-use Rattle.codes.specs.declared.columns.ColumnType.{ColumnType}
+use Rattle.columns.specs.Columns.{codeOf}
+use Rattle.columns.specs.declared.ColumnType.{ColumnType}
 use Rattle.value.specs.declared.Span.{Span}
 use Rattle.value.specs.declared.Scalar.{Scalar}
 use Rattle.value.specs.declared.Scalar.the-variants as scalar

@@ -1,5 +1,5 @@
 // Opaque values that are decimals: the hand-over from a document to the crate `decimal`.
-use codes::ColumnType;
+use columns::ColumnType;
 use decimal::Answer;
 use decimal::Decimal;
 use value::Scalar;

@@ -1,6 +1,6 @@
 // Runs the worked examples of what stands within a document of binary JSON, a line each: the question, and what the library answers. These are the
 // bytes of strings and keys, length fields, and decimals in opaque values.
-use codes::ColumnType;
+use columns::ColumnType;
 use decimal_words::say_answer;
 use jsonb::Found;
 use jsonb::Key;

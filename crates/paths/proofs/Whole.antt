@@ -13,7 +13,7 @@ use borrow.Author.Tests.{ltb-false, eqb-true, le-ltb, lt-leb, eq-eqb}
 use Rattle.raw.specs.Numbers.{le}
 use Rattle.raw.proofs.Bounds.{le-inside}
 use Rattle.codes.specs.Literals.{typeOf as literalType}
-use Rattle.codes.specs.Columns.{typeOf as columnType}
+use Rattle.columns.specs.Columns.{typeOf as columnType}
 use Rattle.codes.specs.Types.{typeOf}
 use Rattle.codes.specs.declared.types.JsonbType.{JsonbType}
 use Rattle.codes.specs.declared.types.JsonbType.the-variants as type
@@ -22,8 +22,8 @@ use Rattle.codes.specs.declared.types.TypeOf.the-variants as type-of
 use Rattle.codes.specs.declared.literals.LiteralType.the-variants as literal
 use Rattle.codes.specs.declared.literals.LiteralOf.{LiteralOf}
 use Rattle.codes.specs.declared.literals.LiteralOf.the-variants as literal-of
-use Rattle.codes.specs.declared.columns.ColumnOf.{ColumnOf}
-use Rattle.codes.specs.declared.columns.ColumnOf.the-variants as column-of
+use Rattle.columns.specs.declared.ColumnOf.{ColumnOf}
+use Rattle.columns.specs.declared.ColumnOf.the-variants as column-of
 use Rattle.layout.specs.Layout.{offsetSize, headerSize, offsetAt}
 use Rattle.layout.specs.declared.Kind.{Kind}
 use Rattle.layout.proofs.Inside.{size-two}

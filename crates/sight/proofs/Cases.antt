@@ -12,7 +12,7 @@ use Rattle.raw.specs.Numbers.{value}
 use Rattle.raw.proofs.Bounds.{le-inside}
 use Rattle.codes.specs.Types.{typeOf, codeOf as typeCode}
 use Rattle.codes.specs.Literals.{typeOf as literalType}
-use Rattle.codes.specs.Columns.{typeOf as columnType, codeOf as columnCode}
+use Rattle.columns.specs.Columns.{typeOf as columnType, codeOf as columnCode}
 use Rattle.codes.specs.declared.types.JsonbType.{JsonbType}
 use Rattle.codes.specs.declared.types.JsonbType.the-variants as type
 use Rattle.codes.specs.declared.types.TypeOf.{TypeOf}
@@ -20,9 +20,9 @@ use Rattle.codes.specs.declared.literals.LiteralType.{LiteralType}
 use Rattle.codes.specs.declared.literals.LiteralType.the-variants as literal
 use Rattle.codes.specs.declared.literals.LiteralOf.{LiteralOf}
 use Rattle.codes.specs.declared.literals.LiteralOf.the-variants as literal-of
-use Rattle.codes.specs.declared.columns.ColumnType.{ColumnType}
-use Rattle.codes.specs.declared.columns.ColumnOf.{ColumnOf}
-use Rattle.codes.specs.declared.columns.ColumnOf.the-variants as column-of
+use Rattle.columns.specs.declared.ColumnType.{ColumnType}
+use Rattle.columns.specs.declared.ColumnOf.{ColumnOf}
+use Rattle.columns.specs.declared.ColumnOf.the-variants as column-of
 use Rattle.layout.specs.Layout.{offsetSize, offsetAt}
 use Rattle.layout.specs.declared.Kind.{Kind}
 use Rattle.layout.proofs.Cond.{yes, no}

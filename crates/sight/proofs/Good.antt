@@ -13,7 +13,7 @@ use Rattle.raw.specs.Length.{Groups, groups, got, short, long}
 use Rattle.codes.specs.Lists.{search}
 use Rattle.codes.specs.Types.{typeOf, codeOf as typeCode, all as allTypes}
 use Rattle.codes.specs.Literals.{typeOf as literalType, codeOf as literalCode, all as allLiterals}
-use Rattle.codes.specs.Columns.{typeOf as columnType, codeOf as columnCode, all as allColumns}
+use Rattle.columns.specs.Columns.{typeOf as columnType, codeOf as columnCode, all as allColumns}
 use Rattle.codes.specs.declared.types.JsonbType.{JsonbType}
 use Rattle.codes.specs.declared.types.JsonbType.the-variants as type
 use Rattle.codes.specs.declared.types.TypeOf.{TypeOf}
@@ -22,9 +22,9 @@ use Rattle.codes.specs.declared.literals.LiteralType.{LiteralType}
 use Rattle.codes.specs.declared.literals.LiteralType.the-variants as literal
 use Rattle.codes.specs.declared.literals.LiteralOf.{LiteralOf}
 use Rattle.codes.specs.declared.literals.LiteralOf.the-variants as literal-of
-use Rattle.codes.specs.declared.columns.ColumnType.{ColumnType}
-use Rattle.codes.specs.declared.columns.ColumnOf.{ColumnOf}
-use Rattle.codes.specs.declared.columns.ColumnOf.the-variants as column-of
+use Rattle.columns.specs.declared.ColumnType.{ColumnType}
+use Rattle.columns.specs.declared.ColumnOf.{ColumnOf}
+use Rattle.columns.specs.declared.ColumnOf.the-variants as column-of
 use Rattle.layout.specs.Layout.{offsetSize, headerSize, offsetAt}
 use Rattle.layout.specs.declared.Kind.{Kind}
 use Rattle.value.specs.declared.Number.{Number}

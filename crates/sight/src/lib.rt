@@ -1,11 +1,11 @@
 // What an event shows of the value in an entry: its type code, its bytes, and a count or a column type. The value itself is not made, so that a walk
 // costs no more than it shows.
-use codes::ColumnOf;
-use codes::ColumnType;
 use codes::JsonbType;
 use codes::LiteralOf;
 use codes::LiteralType;
 use codes::TypeOf;
+use columns::ColumnOf;
+use columns::ColumnType;
 use layout::Kind;
 use raw::Length;
 use value::Span;

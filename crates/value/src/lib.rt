@@ -1,8 +1,8 @@
 // One value of a binary JSON document: a scalar, or a container's view.
 mod asked;
 
-use codes::ColumnType;
 use codes::JsonbType;
+use columns::ColumnType;
 use layout::Kind;
 
 // A container: its header's first byte, its size, its count and its kind.

@@ -17,7 +17,7 @@ use borrow.Author.Tests.{ltb-false, le-ltb, lt-leb, ne-eqb}
 use Rattle.raw.specs.Length.{Groups, groups, got, short, long}
 use Rattle.codes.specs.Lists.{search}
 use Rattle.codes.specs.Literals.{typeOf as literalType, codeOf as literalCode, all as literals}
-use Rattle.codes.specs.Columns.{typeOf as columnType, codeOf as columnCode, all as columns}
+use Rattle.columns.specs.Columns.{typeOf as columnType, codeOf as columnCode, all as columns}
 use Rattle.codes.specs.Types.{typeOf, codeOf, all as types}
 use Rattle.codes.specs.declared.types.JsonbType.{JsonbType}
 use Rattle.codes.specs.declared.types.JsonbType.the-variants as type
@@ -27,8 +27,8 @@ use Rattle.codes.specs.declared.literals.LiteralType.{LiteralType}
 use Rattle.codes.specs.declared.literals.LiteralType.the-variants as literal
 use Rattle.codes.specs.declared.literals.LiteralOf.{LiteralOf}
 use Rattle.codes.specs.declared.literals.LiteralOf.the-variants as literal-of
-use Rattle.codes.specs.declared.columns.ColumnOf.{ColumnOf}
-use Rattle.codes.specs.declared.columns.ColumnOf.the-variants as column-of
+use Rattle.columns.specs.declared.ColumnOf.{ColumnOf}
+use Rattle.columns.specs.declared.ColumnOf.the-variants as column-of
 use Rattle.layout.specs.Layout.{offsetSize, headerSize, offsetAt}
 use Rattle.layout.specs.declared.Kind.{Kind}
 use Rattle.value.specs.declared.View.{View}

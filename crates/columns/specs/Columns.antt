@@ -2,11 +2,11 @@
 -- Assumes nothing.
 use Prim.Native.Nat.{ℕ}
 use mathlib.Core.List.{List, [], _∷_}
 use Rattle.codes.specs.Lists.{search}
-use Rattle.codes.specs.declared.columns.ColumnType.{ColumnType}
-use Rattle.codes.specs.declared.columns.ColumnType.the-variants as type
-use Rattle.codes.specs.declared.columns.ColumnOf.{ColumnOf}
-use Rattle.codes.specs.declared.columns.ColumnOf.the-variants.{Known, Refused}
+use Rattle.columns.specs.declared.ColumnType.{ColumnType}
+use Rattle.columns.specs.declared.ColumnType.the-variants as type
+use Rattle.columns.specs.declared.ColumnOf.{ColumnOf}
+use Rattle.columns.specs.declared.ColumnOf.the-variants.{Known, Refused}
 
 abbrev pub codeOf : ColumnType → ℕ
 codeOf type.Decimal = 0

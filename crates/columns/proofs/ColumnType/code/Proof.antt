@@ -2,8 +2,8 @@
 -- Assumes nothing.
 use mathlib.Core.Path.{sym}
 use borrow.Author.Needs.{needs}
-use Rattle.codes.proofs.columns.ColumnType.code.Statement.{statement}
-use Rattle.codes.proofs.columns.ColumnType.code.Tie as tie
+use Rattle.columns.proofs.ColumnType.code.Statement.{statement}
+use Rattle.columns.proofs.ColumnType.code.Tie as tie
 
 pub code-spec : {M : Type 1} → statement M
 code-spec =

@@ -2,12 +2,12 @@
 -- Assumes nothing.
 use mathlib.Core.Path.{sym}
 use mathlib.Core.List.{[], _∷_}
 use Rattle.codes.specs.Lists.{search}
-use Rattle.codes.specs.Columns.{codeOf, all, typeOf}
-use Rattle.codes.specs.declared.columns.ColumnOf.the-variants.{Known, Refused}
+use Rattle.columns.specs.Columns.{codeOf, all, typeOf}
+use Rattle.columns.specs.declared.ColumnOf.the-variants.{Known, Refused}
 use Rattle.codes.proofs.Others.{Others, search-none}
-use Rattle.codes.proofs.columns.ColumnType.of.Statement.{statement}
-use Rattle.codes.proofs.columns.ColumnType.of.Tie as tie
+use Rattle.columns.proofs.ColumnType.of.Statement.{statement}
+use Rattle.columns.proofs.ColumnType.of.Tie as tie
 
 pub of-spec : {M : Type 1} → statement M
 unfolding typeOf search Others

@@ -1,6 +1,6 @@
-// MySQL's column types, as constants.rs takes them.
+// The numbers of MySQL's column types as an enum.
 ghost use mathlib.Core.Path.{_≡_};
-ghost use Rattle.codes.specs.Columns.{codeOf, typeOf};
+ghost use Rattle.columns.specs.Columns.{codeOf, typeOf};
 
 // MySQL's column types, as constants.rs takes them.
 pub enum ColumnType {
