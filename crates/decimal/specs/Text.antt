@@ -1,4 +1,4 @@
--- A decimal's text, read and printed. The text itself is that of the crate numeral; here its digits become groups, and groups digits.
+-- A decimal's text, read and printed. The text itself is that of the crates numeral and printing; here its digits become groups, and groups digits.
 -- Assumes nothing.
 use Prim.Native.Nat.{ℕ}
 use mathlib.Core.Bool.{Bool, cond}
@@ -10,7 +10,7 @@ use Rattle.groups.specs.Read.{storedAt}
 use Rattle.groups.specs.Write.{digitsTo, roomTold, roomLeaves}
 use Rattle.groups.specs.declared.Form.the-variants.{Digits}
 use Rattle.numeral.specs.Read.{readText}
-use Rattle.numeral.specs.Print.{textOf}
+use Rattle.printing.specs.Print.{textOf}
 use Rattle.numeral.specs.declared.Numeral.{Numeral}
 use Rattle.decimal.specs.Read.{refused, accepted}
 use Rattle.decimal.specs.Write.{isWell}

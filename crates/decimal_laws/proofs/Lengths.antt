@@ -6,7 +6,7 @@ use mathlib.Core.List.{List, [], _∷_, _++_, map}
 use Prim.Native.Nat.{ℕ, _+_, _≤_}
 use native.Mathlib.Omega.{arith}
 use lib.ListN.{length, length-append, length-map}
-use Rattle.numeral.specs.Print.{show, signText}
+use Rattle.printing.specs.Print.{show, signText}
 use Rattle.decimal.specs.Write.{isWell}
 use Rattle.decimal.specs.Text.{digitsOf, printed}
 use Rattle.decimal.specs.declared.Decimal.{Decimal}

@@ -21,7 +21,7 @@ use Rattle.groups.proofs.Opened.{below-drop}
 use Rattle.groups.proofs.Sizes.{digits-size}
 use Rattle.groups.proofs.Store.{length-to, to-below}
 use Rattle.numeral.specs.Read.{padded, readText}
-use Rattle.numeral.specs.Print.{show, signText, wholeDigits, fractionText}
+use Rattle.printing.specs.Print.{show, signText, wholeDigits, fractionText}
 use Rattle.numeral.specs.declared.Numeral.{Numeral}
 use Rattle.decimal.specs.Read.{accepted}
 use Rattle.decimal.specs.Write.{isWell}

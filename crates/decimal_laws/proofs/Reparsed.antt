@@ -14,7 +14,7 @@ use Rattle.groups.specs.Numbers.{both, Below}
 use Rattle.groups.proofs.Accept.{both-true}
 use Rattle.numeral.specs.Read.{strip, minus, unsigned, isDigit, run, pointed, wholePart, fractionPart, isText, fewDigits}
 use Rattle.numeral.specs.Read.{digitOf, digitsIn, padded, readUnsigned, readText}
-use Rattle.numeral.specs.Print.{show, signText}
+use Rattle.printing.specs.Print.{show, signText}
 use Rattle.decimal_laws.proofs.Trimmed.{Trimmed, trimmed-length, trim-none, bare, bare-trims}
 
 -- ---- the character of a digit

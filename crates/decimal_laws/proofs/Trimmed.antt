@@ -14,8 +14,7 @@ use Rattle.groups.specs.Numbers.{number, both, Below}
 use Rattle.groups.specs.Layout.{side, groupsOf}
 use Rattle.groups.proofs.Accept.{both-true}
 use Rattle.groups.proofs.Opened.{below-take}
-use Rattle.numeral.specs.Print.{unpadded, firstDigits, wholeDigits}
-use Rattle.numeral.proofs.Shown.{whole-none}
+use Rattle.printing.specs.Print.{unpadded, firstDigits, wholeDigits}
 use Rattle.decimal.proofs.Lex.{zeros-before}
 
 -- zs is xs without `zeros` zeros at the front, and a digit is left
@@ -80,24 +79,28 @@ whole-trims i ds h l =
     simp (ne-eqb i 0 (λ (e : i ≡ 0). omega arith)) (rw (← q) at (trim-more A (unpadded A) B (unpadded-trims A (rw n (b .0)))))
 
 -- with the case of no integral digit, where a 0 is printed
+whole-none : (ds : List ℕ) → wholeDigits 0 ds ≡ 0 ∷ []
+unfolding wholeDigits
+whole-none ds = refl
+
 pub whole-number : (i : ℕ) (ds : List ℕ) → i ≤ length ds → number 10 (wholeDigits i ds ++ drop i ds) ≡ number 10 ds
 unfolding number
-whole-number zero ds l = rw (whole-none 0 ds refl) (rw (zero-mul, zero-add))
+whole-number zero ds l = rw (whole-none ds) (rw (zero-mul, zero-add))
 whole-number (suc i) ds l = trimmed-number (whole-trims (suc i) ds (omega arith) l) (drop (suc i) ds) ∙ rw take-append-drop
 
 pub whole-some : (i : ℕ) (ds : List ℕ) → i ≤ length ds → 1 ≤ length (wholeDigits i ds)
-whole-some zero ds l = rw (whole-none 0 ds refl) (lit< tt)
+whole-some zero ds l = rw (whole-none ds) (lit< tt)
 whole-some (suc i) ds l = whole-trims (suc i) ds (omega arith) l .some
 
 pub whole-size : (i : ℕ) (ds : List ℕ) → i ≤ length ds → length (wholeDigits i ds) ≤ max i 1
-whole-size zero ds l = rw (whole-none 0 ds refl) (lit< tt)
+whole-size zero ds l = rw (whole-none ds) (lit< tt)
 whole-size (suc i) ds l =
     let t = trimmed-length (whole-trims (suc i) ds (omega arith) l) in
     let e = length-take-le (suc i) ds l in
     omega arith
 
 pub whole-below : (i : ℕ) (ds : List ℕ) → i ≤ length ds → Below 10 ds → Below 10 (wholeDigits i ds)
-whole-below zero ds l h = rw (whole-none 0 ds refl) zero-below
+whole-below zero ds l h = rw (whole-none ds) zero-below
   where
     zero-below : Below 10 (0 ∷ [])
     zero-below zero = lit< tt

@@ -5,7 +5,7 @@ use mathlib.Core.Bool.{true, false}
 use mathlib.Core.List.{[], _∷_}
 use Prim.Native.Nat.{_≤_}
 use lib.ListN.{length, take}
-use Rattle.numeral.specs.Print.{wholeDigits}
+use Rattle.printing.specs.Print.{wholeDigits}
 use Rattle.decimal.specs.Text.{digitsOf, printed}
 use Rattle.decimal.specs.Value.{isNought}
 use Rattle.decimal.specs.declared.Decimal.{Decimal}

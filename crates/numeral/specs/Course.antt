@@ -21,14 +21,6 @@ unfoldable pub fractionAt : List ℕ → Fraction
 fractionAt [] = Places 0
 fractionAt (x ∷ xs) = cond (both (eqb x 46) (eqb (run xs) (length xs))) (Places (length xs)) Other
 
--- the first n are digits
-abbrev pub DigitsTo : ℕ → List ℕ → Type 0
-DigitsTo n ds = (k : ℕ) → k < n → getD ds k 0 < 10
-
 -- no character of n, from a place on, is below '0'
 abbrev pub DigitsFrom : ℕ → ℕ → List ℕ → Type 0
 DigitsFrom from n t = (k : ℕ) → k < n → 48 ≤ getD t (from + k) 0
-
--- how many characters a fraction of f digits has
-unfoldable pub fractionLength : ℕ → ℕ
-fractionLength f = cond (eqb f 0) 0 (f + 1)

@@ -1,8 +1,6 @@
-// Decimal text: from characters to digits, and back.
-mod printer;
+// Decimal text: from characters to digits.
 mod reader;
 
-pub use printer::print;
 pub use reader::read;
 
 // A sign, as many digits before the point and after it, and these digits, each a number from 0 to 9; or a refusal with digits of 0.

@@ -1,7 +1,7 @@
 -- A decimal's text group by group: the first integral group without the zeros that pad it, whole groups nine wide, and the last of the fraction.
 -- Assumes nothing.
 use mathlib.Core.Path.{_≡_, refl, sym, ap, _∙_}
-use mathlib.Core.Bool.{Bool, true, false, cond}
+use mathlib.Core.Bool.{Bool, true, false}
 use mathlib.Core.List.{List, [], _∷_, _++_, map, map-append, append-assoc, append-nil}
 use Prim.Native.Nat.{ℕ, zero, suc, _+_, _-_, _*_, _/_, _%_, _^_, _≤_, _<_}
 use native.Mathlib.Nat.{pow-zero, pow-succ', pow-le-pow-right, div-one, div-add-mod', le-of-eq, le-refl, add-suc}
@@ -9,9 +9,9 @@ use native.Mathlib.Numerals.{one-add}
 use native.Mathlib.Omega.{arith}
 use lib.Dec.{eqb, leb, ltb, lit<}
 use lib.ListN.{length, getD, take, drop, set, length-append, length-map, List·getD-append, List·getD-eq-default}
-use lib.Seq.{take-at, drop-at, take-all, take-set-le, drop-cons, drop-set-lt, getD-set-same, lt-length-set}
+use lib.Seq.{take-at, drop-at, take-all, length-take-le, take-set-le, drop-cons, drop-set-lt, getD-set-same, lt-length-set}
 use borrow.Author.Tests.{lt-ltb, le-ltb, eq-eqb, ne-eqb, leb-true, leb-false, ltb-true, ltb-false, eqb-true}
-use Rattle.groups.specs.Numbers.{digits, both, all, Below}
+use Rattle.groups.specs.Numbers.{digits, all, Below}
 use Rattle.groups.specs.Layout.{groupsOf, side, digitsAt}
 use Rattle.groups.specs.Read.{unitOf}
 use Rattle.groups.specs.Write.{groupDigits, digitsTo, digitsOk, wellAt, wellFormed}
@@ -20,10 +20,9 @@ use Rattle.groups.proofs.Radix.{length-digits}
 use Rattle.groups.proofs.Accept.{both-true, well-digits}
 use Rattle.groups.proofs.Tab.{all-each}
 use Rattle.groups.proofs.Places.{stored-lt, digits-le}
-use Rattle.numeral.specs.Print.{show, unpadded, firstDigits, wholeDigits, fractionText, signText, textOf}
-use Rattle.numeral.specs.Course.{fractionLength}
-use Rattle.numeral.proofs.Shown.{after}
-use Rattle.printing.specs.Course.{nines, before, rest, wholeText, wholeLength, pointText, Significant}
+use Rattle.groups.proofs.Store.{join}
+use Rattle.printing.specs.Print.{show, unpadded, firstDigits, wholeDigits, fractionText, signText, textOf}
+use Rattle.printing.specs.Course.{nines, before, rest, wholeText, wholeLength, pointText, fractionLength, Significant}
 
 -- ---- zeros at the front of a number's digits
 zero-head : (d g : ℕ) → g < 10 ^ d → digits 10 (suc d) g ≡ 0 ∷ digits 10 d g
@@ -367,10 +366,26 @@ put-shown out at i x h =
     ∙ rw (getD-set-same out (at + i) v 0 h, drop-set-lt (suc (at + i)) out (at + i) v (le-refl (suc (at + i)))) in
     rw (take-set-le at out (at + i) v m, d, map-append show (digits 10 i (x / 10)) (x % 10 ∷ []), append-assoc, add-suc at i)
 
--- ---- one part after another, as one text
+-- ---- one part after another, as one text: a second in the middle of an output, and a second and a third at its front
+after : (A B out : List ℕ) (at a b : ℕ) → length A ≡ a → at ≤ length out
+    → let out₁ = take at out ++ (A ++ drop (at + a) out) in
+    take (at + a) out₁ ++ (B ++ drop (at + a + b) out₁) ≡ take at out ++ ((A ++ B) ++ drop (at + a + b) out)
+after A B out at a b e h =
+    let n : length (take at out ++ A) ≡ at + a = length-append (take at out) A ∙ rw (length-take-le at out h, e) in
+    rw (← append-assoc (take at out) A (drop (at + a) out)) (join (take at out ++ A) B out (at + a) b n ∙ simp append-assoc)
+
 pub two-parts : (A B T out : List ℕ) (at b : ℕ) {a p r : ℕ} {out₁ out₂ : List ℕ} → length A ≡ a → at ≤ length out → T ≡ A ++ B → p ≡ at + a → r ≡ p + b
     → out₁ ≡ take at out ++ (A ++ drop p out) → out₂ ≡ take p out₁ ++ (B ++ drop r out₁) → out₂ ≡ take at out ++ (T ++ drop r out)
 two-parts A B T out at b {a} n h t ep er e₁ e₂ = e₂ ∙ rw (e₁, t, er, ep) (after A B out at a b n h)
+
+pub three-parts : (S W F out : List ℕ) {out₁ out₂ out₃ : List ℕ} {a b r : ℕ} → a ≡ length S → out₁ ≡ S ++ drop a out
+    → b ≡ a + length W → out₂ ≡ take a out₁ ++ (W ++ drop b out₁) → r ≡ b + length F → out₃ ≡ take b out₂ ++ (F ++ drop r out₂)
+    → (r ≡ length (S ++ (W ++ F))) × (out₃ ≡ (S ++ (W ++ F)) ++ drop r out)
+three-parts S W F out {out₁} {out₂} {out₃} {a} {b} {r} ea e₁ eb e₂ er e₃ =
+    let q₂ : out₂ ≡ (S ++ W) ++ drop b out = e₂ ∙ rw (e₁, eb) (join S W out a (length W) (sym ea)) in
+    let nb : length (S ++ W) ≡ b = length-append S W ∙ rw (eb, ea) in
+    let q₃ : out₃ ≡ ((S ++ W) ++ F) ++ drop r out = e₃ ∙ rw (q₂, er) (join (S ++ W) F out b (length F) nb) in
+    (er ∙ sym (simp length-append (omega arith)), q₃ ∙ simp append-assoc)
 
 -- one whole group more
 pub nines-more : (gs out : List ℕ) (at from k : ℕ) {p : ℕ} {out₁ out₂ : List ℕ} → from ≤ k → at ≤ length out → p ≡ at + 9 * (k - from)

@@ -6,7 +6,7 @@ use mathlib.Core.List.{List, [], _∷_, _++_, map}
 use lib.Dec.{eqb}
 use lib.ListN.{getD}
 use Rattle.groups.specs.Numbers.{digits}
-use Rattle.numeral.specs.Print.{show}
+use Rattle.printing.specs.Print.{show}
 
 -- the digits of c whole groups, from place j on
 unfoldable pub nines : List ℕ → ℕ → ℕ → List ℕ
@@ -32,6 +32,10 @@ wholeLength n w = cond (eqb n 0) 1 (w + 9 * (n - 1))
 unfoldable pub pointText : ℕ → ℕ → List ℕ → List ℕ
 pointText n f gs =
     cond (eqb f 0) [] (46 ∷ map show (nines gs n (before f) ++ digits 10 (rest f) (getD gs (n + before f) 0 / 10 ^ (9 - rest f))))
+
+-- how many characters it has
+unfoldable pub fractionLength : ℕ → ℕ
+fractionLength f = cond (eqb f 0) 0 (f + 1)
 
 -- g has w digits, and a 0 has one
 abbrev pub Significant : ℕ → ℕ → Type 0

@@ -5,14 +5,12 @@ ghost use mathlib.Core.Path.{_≡_};
 ghost use mathlib.Core.Bool.{true};
 ghost use mathlib.Core.List.{_∷_, _++_, map};
 ghost use Prim.Native.Nat.{_+_, _-_, _*_, _/_, _%_, _^_, _<_, _≤_};
-ghost use lib.ListN.{length, getD, take, drop};
+ghost use lib.ListN.{length, take, drop};
 ghost use Rattle.groups.specs.Numbers.{digits};
 ghost use Rattle.groups.specs.Write.{told, wellFormed, digitsTo, roomTold, roomLeaves};
 ghost use Rattle.groups.specs.declared.Form.the-variants.{Digits};
-ghost use Rattle.numeral.specs.Print.{show, signText, textOf};
-ghost use Rattle.numeral.specs.Course.{fractionLength};
-ghost use Rattle.printing.specs.Print.{printTold, printLeaves};
-ghost use Rattle.printing.specs.Course.{nines, wholeText, wholeLength, pointText, Significant};
+ghost use Rattle.printing.specs.Print.{show, signText, textOf, printTold, printLeaves};
+ghost use Rattle.printing.specs.Course.{nines, wholeText, wholeLength, pointText, fractionLength, Significant};
 
 fn put_byte(out: &mut [u8], at: usize, b: u8)
     requires { ⌜ at < length (now out) ⌝ }

@@ -4,7 +4,7 @@ use borrow.Author.Needs.{needs}
 use borrow.Author.Tests.{eq-eqb, ne-eqb}
 use mathlib.Core.Path.{sym}
 use native.Mathlib.Omega.{arith}
-use Rattle.numeral.specs.Course.{fractionLength}
+use Rattle.printing.specs.Course.{fractionLength}
 use Rattle.printing.proofs.fraction_len.Statement.{statement}
 use Rattle.printing.proofs.fraction_len.Tie as tie
 

@@ -12,10 +12,9 @@ use Rattle.groups.specs.Write.{digitsTo}
 use Rattle.groups.specs.declared.Form.the-variants.{Digits}
 use Rattle.groups.proofs.Accept.{well-digits}
 use Rattle.groups.proofs.Room.{short, fits}
-use Rattle.numeral.specs.Print.{signText, textOf}
-use Rattle.numeral.proofs.Shown.{three}
+use Rattle.printing.specs.Print.{signText, textOf}
 use Rattle.printing.specs.Course.{wholeText, pointText}
-use Rattle.printing.proofs.Pieces.{text-is, whole-count, point-count, well-below}
+use Rattle.printing.proofs.Pieces.{text-is, whole-count, point-count, three-parts, well-below}
 use Rattle.printing.proofs.print_well.Statement.{statement}
 use Rattle.printing.proofs.print_well.Tie as tie
 
@@ -112,7 +111,7 @@ returns-2 c =
     let p = point-count (groupsOf (a .intg)) (a .frac) gs in
     let S = signText (a .sign) in
     let q =
-    three S (whole g) (point g) (now (a .out)) (u .put-sign .ensures .0 .0) (u .put-sign .ensures .1)
+    three-parts S (whole g) (point g) (now (a .out)) (u .put-sign .ensures .0 .0) (u .put-sign .ensures .1)
     (v .put-whole .ensures .0 ∙ ap (λ (n : ℕ). u .put-sign .result + n) (sym w)) (v .put-whole .ensures .1)
     (f .ensures .0 ∙ ap (λ (n : ℕ). v .put-whole .result + n) (sym p)) (f .ensures .1) in
     let e : length (text s) ≡ f .result = ap length (parts g) ∙ sym (q .0) in

@@ -9,9 +9,8 @@ use native.Mathlib.Nat.{add-zero}
 use native.Mathlib.Omega.{arith}
 use lib.ListN.{getD, length, length-map, take-append-drop}
 use Rattle.groups.specs.Numbers.{digits}
-use Rattle.numeral.specs.Print.{show}
-use Rattle.numeral.specs.Course.{fractionLength}
-use Rattle.printing.specs.Course.{nines, before, rest, pointText}
+use Rattle.printing.specs.Print.{show}
+use Rattle.printing.specs.Course.{nines, before, rest, pointText, fractionLength}
 use Rattle.printing.proofs.Pieces.{two-parts, length-nines, no-point, some-point}
 use Rattle.printing.proofs.put_fraction.Statement.{statement}
 use Rattle.printing.proofs.put_fraction.Tie as tie

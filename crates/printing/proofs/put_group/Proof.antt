@@ -8,7 +8,7 @@ use native.Mathlib.Nat.{add-zero}
 use native.Mathlib.Omega.{arith}
 use lib.ListN.{length, take, drop, length-set, take-append-drop}
 use Rattle.groups.specs.Numbers.{digits}
-use Rattle.numeral.specs.Print.{show}
+use Rattle.printing.specs.Print.{show}
 use Rattle.printing.proofs.Pieces.{put-shown}
 use Rattle.printing.proofs.put_group.Statement.{statement}
 use Rattle.printing.proofs.put_group.Tie as tie

@@ -5,9 +5,8 @@ use Prim.Native.Nat.{_≤_, _+_, _-_, _*_}
 use mathlib.Core.Path.{_≡_, refl, sym, _∙_}
 use mathlib.Core.List.{_++_, map}
 use native.Mathlib.Omega.{arith}
-use borrow.Author.Needs.{needs}
 use lib.ListN.{length, take, drop, take-append-drop}
-use Rattle.numeral.specs.Print.{show}
+use Rattle.printing.specs.Print.{show}
 use Rattle.printing.specs.Course.{nines}
 use Rattle.printing.proofs.Pieces.{nines-more}
 use Rattle.printing.proofs.put_nines.Statement.{statement}

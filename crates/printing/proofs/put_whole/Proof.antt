@@ -9,7 +9,7 @@ use native.Mathlib.Omega.{arith}
 use lib.ListN.{getD, length-map}
 use Rattle.groups.specs.Numbers.{digits}
 use Rattle.groups.proofs.Radix.{length-digits}
-use Rattle.numeral.specs.Print.{show}
+use Rattle.printing.specs.Print.{show}
 use Rattle.printing.specs.Course.{nines, wholeText}
 use Rattle.printing.proofs.Pieces.{two-parts, no-whole, some-whole}
 use Rattle.printing.proofs.put_whole.Statement.{statement}
