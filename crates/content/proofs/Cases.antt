@@ -10,11 +10,11 @@ use lib.ListN.{length, getD}
 use lib.Seq.{slice}
 use borrow.Author.Tests.{le-ltb, lt-ltb, lt-leb, ltb-false, eq-eqb, ne-eqb}
 use Rattle.refusal.specs.Told.{Told, answer, refusal}
-use Rattle.raw.specs.Length.{Groups, groups, got, short, long, fieldOf, told, lengthAt}
-use Rattle.raw.specs.declared.Length.{Length}
-use Rattle.raw.specs.declared.Length.the-variants.{Field}
-use Rattle.raw.specs.declared.Length.the-variants as raw
-use Rattle.raw.proofs.Bounds.{Placed, length-placed}
+use Rattle.length_field.specs.Length.{Groups, groups, got, short, long, fieldOf, told, lengthAt}
+use Rattle.length_field.specs.declared.Length.{Length}
+use Rattle.length_field.specs.declared.Length.the-variants.{Field}
+use Rattle.length_field.specs.declared.Length.the-variants as raw
+use Rattle.length_field.proofs.Bounds.{Placed, length-placed}
 use Rattle.columns.specs.Columns.{typeOf as columnType}
 use Rattle.codes.specs.declared.types.JsonbType.{JsonbType}
 use Rattle.columns.specs.declared.ColumnType.{ColumnType}

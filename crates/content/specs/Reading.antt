@@ -11,7 +11,7 @@ use lib.Seq.{slice}
 use mir.Syntax.{w16, w32, w64}
 use mir.Val.{toZ}
 use Rattle.raw.specs.Numbers.{le}
-use Rattle.raw.specs.Length.{Groups, groups, got, short, long}
+use Rattle.length_field.specs.Length.{Groups, groups, got, short, long}
 use Rattle.codes.specs.Literals.{typeOf as literalType}
 use Rattle.columns.specs.Columns.{typeOf as columnType}
 use Rattle.codes.specs.declared.types.JsonbType.{JsonbType}

@@ -7,7 +7,7 @@ use columns::ColumnOf;
 use columns::ColumnType;
 use layout::Kind;
 use layout::offset_at;
-use raw::Length;
+use length_field::Length;
 use value::Number;
 use value::Scalar;
 use value::Span;
@@ -142,7 +142,7 @@ fn read_part(doc: &[u8], at: usize, end: usize) -> Part
     requires { ⌜ Within (length (now doc)) at end ⌝ }
     ensures { λ r. ⌜ r ≡ partAt (now (doc .entry)) at end ⌝ }
 {
-    match raw::length_at(doc, at, end) {
+    match length_field::length_at(doc, at, end) {
         Length::Field { length, next } => {
             if end - next < length as usize {
                 return Part::Refused(refusal::CUT);

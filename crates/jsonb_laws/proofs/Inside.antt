@@ -11,8 +11,8 @@ use lib.ListN.{length, getD}
 use lib.Seq.{slice}
 use borrow.Author.Tests.{ltb-false, eqb-false}
 use Rattle.refusal.specs.Told.{answer, refusal}
-use Rattle.raw.specs.Length.{Groups, groups, got, short, long, fieldOf, lengthAt}
-use Rattle.raw.proofs.Bounds.{length-placed}
+use Rattle.length_field.specs.Length.{Groups, groups, got, short, long, fieldOf, lengthAt}
+use Rattle.length_field.proofs.Bounds.{length-placed}
 use Rattle.codes.specs.Literals.{typeOf as literalType}
 use Rattle.columns.specs.Columns.{typeOf as columnType}
 use Rattle.codes.specs.Types.{typeOf}

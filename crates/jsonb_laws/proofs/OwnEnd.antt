@@ -16,8 +16,9 @@ use mir.Val.{toZ}
 use borrow.Author.Tests.{ltb-false, leb-false, le-ltb, lt-leb}
 use Rattle.refusal.specs.Told.{answer, refusal}
 use Rattle.raw.specs.Numbers.{le}
-use Rattle.raw.specs.Length.{Groups, groups, got, short, long, above, fieldOf, lengthAt}
-use Rattle.raw.proofs.Bounds.{take-slice, le-inside, le-same, length-placed}
+use Rattle.length_field.specs.Length.{Groups, groups, got, short, long, above, fieldOf, lengthAt}
+use Rattle.raw.proofs.Bounds.{take-slice, le-inside, le-same}
+use Rattle.length_field.proofs.Bounds.{length-placed}
 use Rattle.codes.specs.Literals.{typeOf as literalType}
 use Rattle.columns.specs.Columns.{typeOf as columnType}
 use Rattle.codes.specs.declared.types.JsonbType.{JsonbType}

@@ -13,7 +13,7 @@ use mir.Syntax.{w16, w32, w64}
 use mir.Val.{toZ}
 use borrow.Author.Tests.{leb-false, le-ltb, lt-leb, eq-eqb}
 use Rattle.raw.specs.Numbers.{le}
-use Rattle.raw.specs.Length.{groups}
+use Rattle.length_field.specs.Length.{groups}
 use Rattle.raw.proofs.Bounds.{le-same}
 use Rattle.codes.specs.Literals.{typeOf as literalType}
 use Rattle.columns.specs.Columns.{typeOf as columnType}

@@ -11,7 +11,7 @@ use Rattle.printing.specs.Print.{unpadded, wholeDigits, fractionText}
 use Rattle.decimal.specs.Read.{negative, decimalOf, without, finished, fromGroups, readBin, readPacked}
 use Rattle.decimal.specs.Text.{printed}
 use Rattle.raw.specs.Numbers.{value, le}
-use Rattle.raw.specs.Length.{groups}
+use Rattle.length_field.specs.Length.{groups}
 use Rattle.codes.specs.Lists.{search as searched}
 use Rattle.codes.specs.Types.{typeOf}
 use Rattle.codes.specs.Literals.{typeOf as literalType}

@@ -9,7 +9,7 @@ use jsonb::Scalar;
 use jsonb::Span;
 use jsonb::Value;
 use jsonb::View;
-use raw::Length;
+use length_field::Length;
 use words::root_view;
 use words::say;
 use words::say_container;
@@ -99,7 +99,7 @@ fn say_length(l: Length) {
 fn length(doc: &[u8]) {
     say(b"length ");
     say_document(doc);
-    say_length(raw::length_at(doc, 0, doc.len()));
+    say_length(length_field::length_at(doc, 0, doc.len()));
     say(b"\n");
 }
 

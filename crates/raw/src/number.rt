@@ -8,7 +8,7 @@ ghost use mir.Syntax.{w16, w32, w64};
 ghost use mir.Val.{sel, toZ};
 ghost use Rattle.raw.specs.Numbers.{value, le};
 
-pub(crate) fn wide(x: u8) -> u64
+fn wide(x: u8) -> u64
     ensures { λ r. ⌜ (r ≡ x) × (r < 256) ⌝ }
 {
     x as u64
@@ -21,7 +21,7 @@ fn lesser(a: usize, b: usize) -> usize
 }
 
 // How many bytes stand at a place, before the end.
-pub(crate) fn left(doc: &[u8], at: usize, end: usize) -> usize
+pub fn left(doc: &[u8], at: usize, end: usize) -> usize
     ensures { λ r. ⌜ r ≡ min end (length (now (doc .entry))) - at ⌝ }
 {
     let stop = lesser(end, doc.len());

@@ -9,7 +9,7 @@ use lib.Dec.{ltb, leb, eqb}
 use lib.ListN.{length, getD}
 use lib.Seq.{slice}
 use borrow.Author.Tests.{ltb-false, eqb-true, eqb-false}
-use Rattle.raw.specs.Length.{Groups, groups, got, short, long}
+use Rattle.length_field.specs.Length.{Groups, groups, got, short, long}
 use Rattle.codes.specs.Lists.{search}
 use Rattle.codes.specs.Types.{typeOf, codeOf as typeCode, all as allTypes}
 use Rattle.codes.specs.Literals.{typeOf as literalType, codeOf as literalCode, all as allLiterals}

@@ -7,7 +7,7 @@ use codes::TypeOf;
 use columns::ColumnOf;
 use columns::ColumnType;
 use layout::Kind;
-use raw::Length;
+use length_field::Length;
 use value::Span;
 ghost use mathlib.Core.Path.{_≡_};
 ghost use mathlib.Core.Bool.{false, cond};
@@ -118,7 +118,7 @@ fn sight_part(doc: &[u8], code: u32, extra: u32, at: usize, end: usize) -> Sight
     requires { ⌜ Within (length (now doc)) at end ⌝ }
     ensures { λ r. ⌜ r ≡ partSight code extra (partAt (now (doc .entry)) at end) ⌝ }
 {
-    match raw::length_at(doc, at, end) {
+    match length_field::length_at(doc, at, end) {
         Length::Field { length, next } => {
             if end - next < length as usize {
                 return refused(refusal::CUT);

@@ -14,7 +14,7 @@ use lib.Dec.{ltb, leb, eqb}
 use lib.ListN.{length, getD}
 use lib.Seq.{slice}
 use borrow.Author.Tests.{ltb-false, le-ltb, lt-leb, ne-eqb}
-use Rattle.raw.specs.Length.{Groups, groups, got, short, long}
+use Rattle.length_field.specs.Length.{Groups, groups, got, short, long}
 use Rattle.codes.specs.Lists.{search}
 use Rattle.codes.specs.Literals.{typeOf as literalType, codeOf as literalCode, all as literals}
 use Rattle.columns.specs.Columns.{typeOf as columnType, codeOf as columnCode, all as columns}

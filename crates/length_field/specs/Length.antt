@@ -7,8 +7,8 @@ use mathlib.Core.List.{List, [], _∷_}
 use lib.Dec.{ltb}
 use lib.Seq.{slice}
 use Rattle.refusal.specs.Told.{Told, answer, refusal}
-use Rattle.raw.specs.declared.Length.{Length}
-use Rattle.raw.specs.declared.Length.the-variants.{Field, Refused}
+use Rattle.length_field.specs.declared.Length.{Length}
+use Rattle.length_field.specs.declared.Length.the-variants.{Field, Refused}
 
 -- an answer: the length, and the place past the field
 abbrev pub told : Length → Told

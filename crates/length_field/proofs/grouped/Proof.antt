@@ -5,9 +5,9 @@ use mathlib.Core.Path.{_≡_, refl, _∙_}
 use Prim.Native.Nat.{ℕ, _+_, _-_, _*_, _≤_, _<_, _^_}
 use native.Mathlib.Omega.{arith}
 use borrow.Author.Needs.{needs}
-use Rattle.raw.proofs.Fields.{Passed, passed-none, cut-here, long-here, last-here, more-here, bound, unit-more}
-use Rattle.raw.proofs.field.grouped.Statement.{statement}
-use Rattle.raw.proofs.field.grouped.Tie as tie
+use Rattle.length_field.proofs.Fields.{Passed, passed-none, cut-here, long-here, last-here, more-here, bound, unit-more}
+use Rattle.length_field.proofs.grouped.Statement.{statement}
+use Rattle.length_field.proofs.grouped.Tie as tie
 
 abbrev Inv-loop : tie.InvT-loop
 Inv-loop doc at end n low₀ unit₀ k₀ low unit k = (k ≤ 5) × ((unit ≡ 128 ^ k) × ((low < unit) × Passed doc at end low unit k))

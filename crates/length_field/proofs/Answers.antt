@@ -6,9 +6,9 @@ use lib.Dec.{eqb}
 use lib.ListN.{length, getD}
 use Rattle.refusal.specs.Told.{Told}
 use Rattle.refusal.proofs.Answers.{one-answer}
-use Rattle.raw.specs.Length.{told}
-use Rattle.raw.specs.declared.Length.{Length}
-use Rattle.raw.specs.declared.Length.the-variants.{Field, Refused}
+use Rattle.length_field.specs.Length.{told}
+use Rattle.length_field.specs.declared.Length.{Length}
+use Rattle.length_field.specs.declared.Length.the-variants.{Field, Refused}
 
 length-by : Told → Length
 length-by t = cond (eqb (length (t .values)) 0) (Refused (t .number)) (Field (getD (t .values) 0 0) (getD (t .values) 1 0))

@@ -1,10 +1,19 @@
-// The length field.
-use super::Length;
-use super::number::left;
-use super::number::wide;
+// The length field of strings and opaque values, at a place of a document and never past an end.
 ghost use mathlib.Core.Path.{_≡_};
 ghost use Prim.Native.Nat.{_+_, _<_, _^_};
-ghost use Rattle.raw.specs.Length.{got, fieldOf, told, lengthAt};
+ghost use Rattle.length_field.specs.Length.{got, fieldOf, told, lengthAt};
+
+// A length field: the length, and the place past the field; or a refusal.
+pub enum Length {
+    Field { length: u32, next: usize },
+    Refused(u8),
+}
+
+fn wide(x: u8) -> u64
+    ensures { λ r. ⌜ (r ≡ x) × (r < 256) ⌝ }
+{
+    x as u64
+}
 
 // The field of k groups that hold n.
 fn fitting(at: usize, n: u64, k: usize) -> Length
@@ -25,7 +34,7 @@ fn fitting(at: usize, n: u64, k: usize) -> Length
 fn grouped(doc: &[u8], at: usize, end: usize) -> Length
     ensures { λ r. ⌜ told r ≡ lengthAt (now (doc .entry)) at end ⌝ }
 {
-    let n = left(doc, at, end);
+    let n = raw::left(doc, at, end);
     let mut low: u64 = 0;
     let mut unit: u64 = 1;
     let mut k: usize = 0;
@@ -48,7 +57,7 @@ fn grouped(doc: &[u8], at: usize, end: usize) -> Length
 pub fn length_at(doc: &[u8], at: usize, end: usize) -> Length
     ensures { λ r. ⌜ told r ≡ lengthAt (now (doc .entry)) at end ⌝ }
 {
-    if 0 < left(doc, at, end) {
+    if 0 < raw::left(doc, at, end) {
         let b = doc[at];
         if b < 128 {
             return Length::Field {

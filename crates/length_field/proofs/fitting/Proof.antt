@@ -1,9 +1,9 @@
 -- A length above 4,294,967,295 is refused, and the code compares as the definition does.
 -- Assumes nothing.
 use borrow.Author.Needs.{needs}
-use Rattle.raw.proofs.Fields.{fits, large}
-use Rattle.raw.proofs.field.fitting.Statement.{statement}
-use Rattle.raw.proofs.field.fitting.Tie as tie
+use Rattle.length_field.proofs.Fields.{fits, large}
+use Rattle.length_field.proofs.fitting.Statement.{statement}
+use Rattle.length_field.proofs.fitting.Tie as tie
 
 cast-t6 : tie.Need-cast-t6
 cast-t6 c = search needs

@@ -10,8 +10,8 @@ use lib.ListN.{length, getD, drop, drop-of-length-le}
 use lib.Seq.{slice, drop-cons}
 use borrow.Author.Tests.{lt-ltb, le-ltb}
 use Rattle.refusal.specs.Told.{answer, refusal}
-use Rattle.raw.specs.Length.{Groups, got, short, long, above, groups, fieldOf, lengthAt}
+use Rattle.length_field.specs.Length.{Groups, got, short, long, above, groups, fieldOf, lengthAt}
 use Rattle.raw.proofs.Parts.{slice-length, slice-at}
 
 pub fits : (at n k : ℕ) → n < 4294967296 → answer (n ∷ (at + k) ∷ []) ≡ fieldOf at (got n k)
 fits at n k h = simp (lt-ltb n 4294967296 h)

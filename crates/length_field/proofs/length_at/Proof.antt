@@ -3,9 +3,9 @@
 use denote.Ref.{now}
 use native.Mathlib.Omega.{arith}
 use borrow.Author.Needs.{needs}
-use Rattle.raw.proofs.Fields.{one}
-use Rattle.raw.proofs.field.length_at.Statement.{statement}
-use Rattle.raw.proofs.field.length_at.Tie as tie
+use Rattle.length_field.proofs.Fields.{one}
+use Rattle.length_field.proofs.length_at.Statement.{statement}
+use Rattle.length_field.proofs.length_at.Tie as tie
 
 left-requires : tie.Need-left-requires
 left-requires c κs = search needs

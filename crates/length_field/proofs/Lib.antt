@@ -1,0 +1,4 @@
+pub mod Bounds
+pub mod Fields
+pub mod Examples
+pub mod Answers
