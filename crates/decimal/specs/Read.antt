@@ -7,10 +7,8 @@ use mathlib.Core.List.{List, [], _∷_}
 use lib.Dec.{ltb, eqb}
 use lib.ListN.{getD}
 use Rattle.groups.specs.Numbers.{tab, leadingIn}
-use Rattle.groups.specs.Layout.{groupsOf}
+use Rattle.groups.specs.Layout.{groupsOf, formOf}
 use Rattle.groups.specs.Read.{readGroups, zeros}
-use Rattle.groups.specs.declared.Form.{Form}
-use Rattle.groups.specs.declared.Form.the-variants.{Plain, Inverted}
 use Rattle.groups.specs.declared.Groups.{Groups}
 use Rattle.decimal.specs.declared.Decimal.{Decimal}
 use Rattle.decimal.specs.declared.Answer.{Answer}
@@ -19,10 +17,6 @@ use Rattle.decimal.specs.declared.Answer.{Answer}
 unfoldable pub negative : List ℕ → Bool
 negative [] = false
 negative (b ∷ bs) = ltb b 128
-
-abbrev pub formOf : Bool → Form
-formOf true = Inverted
-formOf false = Plain
 
 -- positive 0 with one integral digit
 abbrev pub nought : Decimal

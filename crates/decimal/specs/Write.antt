@@ -4,9 +4,8 @@ use Prim.Native.Nat.{ℕ}
 use mathlib.Core.Bool.{Bool, cond}
 use mathlib.Core.List.{List, [], _∷_}
 use Rattle.refusal.specs.Told.{Told, answer, refusal}
-use Rattle.groups.specs.Layout.{size}
+use Rattle.groups.specs.Layout.{formOf, size}
 use Rattle.groups.specs.Write.{wellFormed, written, writeTold, writeLeaves}
-use Rattle.decimal.specs.Read.{formOf}
 use Rattle.decimal.specs.declared.Decimal.{Decimal}
 
 -- the record is a decimal

@@ -86,7 +86,7 @@ impl Decimal {
         ensures { λ _. ⌜ now (out .exit) ≡ binLeaves self (now (out .entry)) ⌝ }
     {
         let gs = self.groups;
-        groups::write(out, reader::form_of(self.sign), self.intg, self.frac, gs)
+        groups::write(out, self.sign, self.intg, self.frac, gs)
     }
 
     // The decimal that the text writes.

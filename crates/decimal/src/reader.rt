@@ -7,8 +7,9 @@ ghost use mathlib.Core.Path.{_≡_};
 ghost use Prim.Native.Nat.{_+_, _<_, _≤_};
 ghost use lib.ListN.{length, getD};
 ghost use Rattle.groups.specs.Numbers.{tab, leadingIn, Below};
+ghost use Rattle.groups.specs.Layout.{formOf};
 ghost use Rattle.decimal.specs.Text.{ofDigits};
-ghost use Rattle.decimal.specs.Read.{negative as isNegative, formOf, decimalOf, finished, refused};
+ghost use Rattle.decimal.specs.Read.{negative as isNegative, decimalOf, finished, refused};
 
 pub(crate) fn wide(b: u8) -> usize
     ensures { λ r. ⌜ r ≡ b ⌝ }

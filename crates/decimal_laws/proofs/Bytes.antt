@@ -10,10 +10,11 @@ use lib.Dec.{eqb, ltb, leb, eqb→eq, ltb→lt, leb→le}
 use lib.ListN.{length, getD, take, length-map}
 use borrow.Author.Tests.{le-ltb, lt-ltb}
 use Rattle.groups.specs.Numbers.{Below}
+use Rattle.groups.specs.Layout.{formOf}
 use Rattle.groups.specs.Packed.{flip, flipFirst, invert, bytesOf, digitsIn}
 use Rattle.groups.proofs.Finite.{at}
 use Rattle.groups.proofs.Marks.{flip-front, length-flip}
-use Rattle.decimal.specs.Read.{negative, formOf}
+use Rattle.decimal.specs.Read.{negative}
 
 -- ---- one byte
 flip-flip : (b : ℕ) → b < 256 → flip (flip b) ≡ b

@@ -10,7 +10,7 @@ use lib.Dec.{ltb, eqb, lit<}
 use lib.ListN.{length, getD, drop, replicate, length-append, length-map, List·getD-eq-default}
 use borrow.Author.Tests.{ltb-true, ltb-false, lt-ltb, le-ltb, leb-true, eqb-true, eqb-false}
 use Rattle.groups.specs.Numbers.{tab, leadingIn, Below}
-use Rattle.groups.specs.Layout.{groupsOf, side, baseOf, digitsAt, sizeIn}
+use Rattle.groups.specs.Layout.{groupsOf, side, formOf, baseOf, digitsAt, sizeIn}
 use Rattle.groups.specs.Packed.{digitsIn}
 use Rattle.groups.specs.Read.{unitOf, rangeAt, storedAt, readGroups}
 use Rattle.groups.specs.Write.{digitsOk, wellAt, wellFormed}
@@ -25,7 +25,7 @@ use Rattle.numeral.specs.Read.{strip, minus, unsigned, run, pointed, wholePart,
 use Rattle.numeral.specs.Read.{digitOf, digitsIn as textDigits, noNumeral, numeralOf, readUnsigned, readText}
 use Rattle.numeral.specs.declared.Numeral.{Numeral}
 use Rattle.numeral.proofs.Limits.{read-within}
-use Rattle.decimal.specs.Read.{negative, formOf, nought, decimalOf, without, finished, fromGroups, readBin, readPacked}
+use Rattle.decimal.specs.Read.{negative, nought, decimalOf, without, finished, fromGroups, readBin, readPacked}
 use Rattle.decimal.specs.Write.{isWell}
 use Rattle.decimal.specs.Text.{ofDigits, ofNumeral, parseText}
 use Rattle.decimal.specs.declared.Decimal.{Decimal}

@@ -13,7 +13,7 @@ use lib.ListN.{length, getD, drop, replicate, length-append, length-drop, length
 use lib.Seq.{getD-drop}
 use borrow.Author.Tests.{le-ltb, eqb-true}
 use Rattle.groups.specs.Numbers.{number, tab, leadingIn}
-use Rattle.groups.specs.Layout.{width, groupsOf, side, wideOf, digitsAt}
+use Rattle.groups.specs.Layout.{width, groupsOf, side, formOf, wideOf, digitsAt}
 use Rattle.groups.specs.Packed.{digitsIn}
 use Rattle.groups.specs.Read.{groupAt, storedAt, readGroups}
 use Rattle.groups.specs.declared.Form.{Form}
@@ -21,7 +21,7 @@ use Rattle.groups.specs.declared.Form.the-variants.{Plain, Inverted, Digits}
 use Rattle.groups.proofs.Accept.{in-range}
 use Rattle.groups.proofs.Tab.{tab-at, length-tab, filled}
 use Rattle.groups.proofs.Opened.{opened, reads}
-use Rattle.decimal.specs.Read.{negative, formOf, nought, decimalOf, without, finished, refused, accepted, fromGroups, readBin, readPacked}
+use Rattle.decimal.specs.Read.{negative, nought, decimalOf, without, finished, refused, accepted, fromGroups, readBin, readPacked}
 use Rattle.decimal.specs.Value.{magnitude, signed, value}
 use Rattle.decimal.specs.declared.Decimal.{Decimal}
 use Rattle.decimal.specs.declared.Answer.{Answer}

@@ -11,19 +11,17 @@ use lib.Dec.{leb, ltb}
 use lib.ListN.{length, length-append}
 use borrow.Author.Tests.{le-leb}
 use Rattle.groups.specs.Numbers.{number, tab, all, leadingIn}
-use Rattle.groups.specs.Layout.{width, groupsOf, side, digitsAt, offset, sizeIn, size}
+use Rattle.groups.specs.Layout.{width, groupsOf, side, formOf, digitsAt, offset, sizeIn, size}
 use Rattle.groups.specs.Packed.{flipFirst, invert, digitsIn}
 use Rattle.groups.specs.Read.{inRange, groupAt, rangeAt, storedAt, unitOf, groupsIn, readGroups}
 use Rattle.groups.specs.declared.Form.{Form}
-use Rattle.groups.specs.declared.Form.the-variants.{Plain}
 use Rattle.groups.proofs.Accept.{in-range}
 use Rattle.groups.proofs.Marks.{length-in}
-use Rattle.groups.proofs.Sizes.{size-pos}
+use Rattle.groups.proofs.Sizes.{packed-size, size-pos}
 use Rattle.groups.proofs.Tab.{tab-at, length-tab, filled}
-use Rattle.decimal.specs.Read.{negative, formOf, nought, decimalOf, without, finished, refused, accepted, fromGroups, readBin, readPacked}
+use Rattle.decimal.specs.Read.{negative, nought, decimalOf, without, finished, refused, accepted, fromGroups, readBin, readPacked}
 use Rattle.decimal_laws.proofs.Bytes.{after}
 use Rattle.decimal_laws.proofs.Places.{range-front, stored-front}
-use Rattle.decimal_laws.proofs.RoundTrip.{packed-size}
 
 -- ---- 0 with 0
 leb-zero : (n : ℕ) → leb 0 n ≡ true
@@ -88,7 +86,7 @@ none p s r l = go p refl
   where
     go : (q : ℕ) → p ≡ q → p ≡ 0
     go zero e = e
-    go (suc q) e = let h = size-pos Plain (p - s) s (r .1 .0) (omega arith) (omega arith) in absurd (omega arith)
+    go (suc q) e = let h = size-pos (p - s) s (omega arith) (omega arith) in absurd (omega arith)
 
 same-sign : (b : ℕ) (bs rest : List ℕ) (p s : ℕ) (keep : Bool) → size (p - s) s ≤ length (b ∷ bs) → readBin ((b ∷ bs) ++ rest) p s keep ≡ readBin (b ∷ bs) p s keep
 unfolding readBin negative

@@ -12,7 +12,7 @@ use lib.Seq.{take-add}
 use borrow.Author.Tests.{le-leb, ne-eqb, eqb-true}
 use Rattle.refusal.specs.Told.{answer}
 use Rattle.groups.specs.Numbers.{tab, all, Below}
-use Rattle.groups.specs.Layout.{baseOf, wideOf, digitsAt, offset, sizeIn, size}
+use Rattle.groups.specs.Layout.{formOf, baseOf, wideOf, digitsAt, offset, sizeIn, size}
 use Rattle.groups.specs.Packed.{digitsIn}
 use Rattle.groups.specs.Read.{groupAt, rangeAt, storedAt, unitOf, readGroups}
 use Rattle.groups.specs.Write.{digitsOk, groupDigits, digitsTo, wellAt, wellFormed, written}
@@ -26,8 +26,8 @@ use Rattle.groups.proofs.Places.{within, unit-pos}
 use Rattle.groups.proofs.Opened.{opened, reads, below-drop, range-of}
 use Rattle.groups.proofs.Store.{length-to, length-written, to-below}
 use Rattle.groups.proofs.Room.{writes}
-use Rattle.groups.proofs.Sizes.{inverted-offset, size-pos}
-use Rattle.decimal.specs.Read.{negative, formOf, decimalOf, finished, refused, accepted, fromGroups, readBin}
+use Rattle.groups.proofs.Sizes.{packed-size, size-pos}
+use Rattle.decimal.specs.Read.{negative, decimalOf, finished, refused, accepted, fromGroups, readBin}
 use Rattle.decimal.specs.Write.{isWell, packed, writeBin, binLeaves}
 use Rattle.decimal.specs.declared.Decimal.{Decimal}
 use Rattle.decimal.specs.declared.Answer.{Answer}
@@ -78,10 +78,6 @@ module _ (bs : List ℕ) (p s : ℕ) where
       groups-read (readGroups (formOf (negative bs)) bs p s) (p - s) s (negative bs) true z ∙ simp (n, reads (formOf (negative bs)) bs p s (o .0) (o .1 .0) (o .1 .1))
 
 -- ---- the form of a sign
-pub packed-size : (neg : Bool) (i f : ℕ) → sizeIn (formOf neg) i f ≡ size i f
-packed-size true i f = inverted-offset i f 9
-packed-size false i f = refl
-
 pub packed-base : (neg : Bool) → baseOf (formOf neg) ≡ 256
 packed-base true = refl
 packed-base false = refl
@@ -115,7 +111,7 @@ read-write bs out p s h l e n =
 -- groups that were written, read again
 module _ (neg : Bool) (i f : ℕ) (gs rest : List ℕ) (n : length gs ≡ 9) (w : wellFormed i f gs ≡ true) where
   some : 0 < length (digitsTo (formOf neg) i f gs 9)
-  some = let h = well-digits i f gs w in rw (length-to (formOf neg) i f gs 9) (size-pos (formOf neg) i f (h .1 .1) (h .1 .0) (h .0))
+  some = let h = well-digits i f gs w in rw (length-to (formOf neg) i f gs 9, packed-size neg i f) (size-pos i f (h .1 .0) (h .0))
 
   pub sign-back : negative (written (formOf neg) i f gs ++ rest) ≡ neg
   unfolding written

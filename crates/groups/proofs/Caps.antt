@@ -131,7 +131,7 @@ module _ (i f k g : ℕ) where
   well-last h s e = let l : groupsOf i ≤ k = omega arith in rw (digits-last i f k l s) at (fraction-parts l e .0)
 
 -- ---- all nine
-pub true-not-false : true ≡ false → ⊥
+true-not-false : true ≡ false → ⊥
 true-not-false z = let n : _≡_ {A = ℕ} 0 1 = ap (λ (t : Bool). cond t 0 1) z in omega arith
 
 module _ (i f : ℕ) (gs : List ℕ) where

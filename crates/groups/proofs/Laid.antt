@@ -4,10 +4,9 @@ use mathlib.Core.Path.{_≡_, sym, ap, _∙_}
 use mathlib.Core.List.{List, [], _∷_, _++_, append-assoc}
 use Prim.Native.Nat.{ℕ, zero, suc, _+_, _-_, _*_, _/_, _%_, _≤_, _<_}
 use native.Mathlib.Nat.{add-zero, zero-add}
-use native.Mathlib.Numerals.{add-one, add-two}
+use native.Mathlib.Numerals.{add-one}
 use native.Mathlib.Omega.{arith}
-use lib.ListN.{length, take, drop, set, length-append, length-set, take-append-drop}
-use lib.Arith.{digits-div, digits-mod}
+use lib.ListN.{length, take, drop, set, length-append, take-append-drop}
 use lib.Seq.{set-split, take-append-le, take-take, drop-at, take-at, drop-drop, length-take-le}
 use Rattle.groups.specs.Numbers.{digits}
 use Rattle.groups.specs.Course.{laidAt, run}
@@ -57,30 +56,6 @@ pub digit-before : (b n : ℕ) (out : List ℕ) (at x : ℕ) → at + n < length
     → laidAt (laidAt out (at + n) 1 (digits b 1 x)) at n (digits b n (x / b)) ≡ laidAt out at (n + 1) (digits b (n + 1) x)
 unfolding digits
 digit-before b n out at x h = laid-before out (digits b n (x / b)) (x % b ∷ []) at n 1 (omega arith) ∙ ap (laidAt out at (n + 1)) (rw add-one)
-
--- ---- two decimal digits, and then those before them
-pub pair-laid : (out : List ℕ) (at x : ℕ) → at + 2 ≤ length out → set (set out (at + 1) (x % 100 % 10)) at (x % 100 / 10) ≡ laidAt out at 2 (digits 10 2 x)
-unfolding digits
-pair-laid out at x h =
-    let c = x % 100 / 10 in
-    let y = x % 100 % 10 in
-    let e : x ≡ (x / 100 * 10 + c) * 10 + y = omega arith in
-    let l : y < 10 = omega arith in
-    let m : c < 10 = omega arith in
-    let a : y ≡ x % 10 = sym (ap (λ (n : ℕ). n % 10) e ∙ digits-mod (x / 100 * 10 + c) l) in
-    let b : c ≡ x / 10 % 10 = sym (ap (λ (n : ℕ). n / 10 % 10) e ∙ ap (λ (n : ℕ). n % 10) (digits-div (x / 100 * 10 + c) l) ∙ digits-mod (x / 100) m) in
-    let o = set out (at + 1) (x % 10) in
-    rw (a, b) (laid-byte o at (x / 10 % 10) (rw length-set (omega arith)) ∙ ap (λ (l : List ℕ). laidAt l at 1 (x / 10 % 10 ∷ [])) (laid-byte out (at + 1) (x % 10) (omega arith)) ∙ laid-before out (x / 10 % 10 ∷ []) (x % 10 ∷ []) at 1 1 (omega arith))
-
-two-more : (n x : ℕ) → digits 10 n (x / 100) ++ digits 10 2 x ≡ digits 10 (n + 2) x
-unfolding digits
-two-more n x =
-    let e : x / 10 / 10 ≡ x / 100 = omega arith in
-    rw (add-two n, e) (sym (append-assoc (digits 10 n (x / 100)) (x / 10 % 10 ∷ []) (x % 10 ∷ [])))
-
-pub pair-before : (n : ℕ) (out : List ℕ) (at x : ℕ) → at + n ≤ length out
-    → laidAt (laidAt out (at + n) 2 (digits 10 2 x)) at n (digits 10 n (x / 100)) ≡ laidAt out at (n + 2) (digits 10 (n + 2) x)
-pair-before n out at x h = laid-before out (digits 10 n (x / 100)) (digits 10 2 x) at n 2 h ∙ ap (laidAt out at (n + 2)) (two-more n x)
 
 -- ---- a run of groups
 pub length-run : (b w : ℕ) (g : ℕ → ℕ) (k n : ℕ) → length (run b w g k n) ≡ w * n

@@ -1,6 +1,6 @@
 -- The laws of writing all groups by parts: the integral rest, the whole groups, the rest of the fraction.
 -- Assumes nothing.
-use mathlib.Core.Path.{_≡_, refl, sym, ap, _∙_}
+use mathlib.Core.Path.{_≡_, refl, ap, _∙_}
 use mathlib.Core.Bool.{Bool, true, false}
 use mathlib.Core.List.{List, _++_, map}
 use Prim.Native.Nat.{ℕ, zero, suc, _+_, _-_, _*_, _/_, _^_, _≤_, _<_}
@@ -8,20 +8,18 @@ use native.Mathlib.Nat.{div-le-self, le-trans}
 use native.Mathlib.Omega.{arith}
 use lib.ListN.{length, getD, drop, length-map}
 use Rattle.groups.specs.Numbers.{digits}
-use Rattle.groups.specs.Layout.{width, sizeIn, size}
+use Rattle.groups.specs.Layout.{width, size, formOf}
 use Rattle.groups.specs.Packed.{flipFirst, invert, bytesOf}
-use Rattle.groups.specs.Write.{groupDigits, digitsTo}
-use Rattle.groups.specs.Course.{laidAt, run, shade, shaded, packs, inverts, rest, lead, wholes}
-use Rattle.groups.specs.declared.Form.{Form}
-use Rattle.groups.specs.declared.Form.the-variants.{Plain, Inverted, Digits}
+use Rattle.groups.specs.Write.{groupDigits, digitsTo, written}
+use Rattle.groups.specs.Course.{laidAt, run, shade, shaded, rest, lead, wholes}
+use Rattle.groups.specs.declared.Form.the-variants.{Plain, Inverted}
 use Rattle.groups.proofs.Radix.{length-digits}
-use Rattle.groups.proofs.Caps.{true-not-false}
 use Rattle.groups.proofs.Marks.{flip-front}
 use Rattle.groups.proofs.Store.{length-to}
 use Rattle.groups.proofs.Laid.{three, length-run}
 use Rattle.groups.proofs.Shade.{digits-shade, run-shade, shaded-append}
 use Rattle.groups.proofs.Sides.{to-sides}
-use Rattle.groups.proofs.Sizes.{packed-sides, digits-size, inverted-offset}
+use Rattle.groups.proofs.Sizes.{packed-sides}
 
 width-le : (d : ℕ) → width d ≤ 4
 unfolding width
@@ -40,9 +38,6 @@ module _ (i f n : ℕ) (h : i + f ≤ 65) where
 
   pub packed-room : size i f ≤ n → (width (rest i) ≤ n) × ((width (rest i) + 4 * whole ≤ n) × (width (rest i) + 4 * whole + width (rest f) ≤ n))
   packed-room l = let z = packed-sides i f h in omega arith
-
-  pub digits-room : f ≤ 30 → sizeIn Digits i f ≤ n → (rest i ≤ n) × ((rest i + 9 * whole ≤ n) × (rest i + 9 * whole + rest f ≤ n))
-  digits-room hf l = let z = digits-size i f hf h in omega arith
 
 module _ (i f : ℕ) (gs out : List ℕ) (h : i + f ≤ 65) where
   pub packed-all : (v : Bool) → size i f ≤ length out → ((k : ℕ) → k < 9 → getD gs k 0 ≤ 4294967295)
@@ -69,49 +64,16 @@ module _ (i f : ℕ) (gs out : List ℕ) (h : i + f ≤ 65) where
       let e : shaded v (digitsTo Plain i f gs 9) ≡ (shaded v A ++ shaded v B) ++ shaded v C = ap (shaded v) (to-sides Plain i f gs h) ∙ shaded-append v (A ++ B) C ∙ ap (λ (x : List ℕ). x ++ shaded v C) (shaded-append v A B) in
       three out _ _ _ w (4 * n) (width s) (omega arith) (length-digits 256 w _) (length-run 256 4 _ (lead i) n) ∙ rw (a, b, c, e, z)
 
-  pub digits-all : sizeIn Digits i f ≤ length out → f ≤ 30
-      → let n = wholes i f in let s = rest f in
-      laidAt
-      (laidAt (laidAt out 0 (rest i) (digits 10 (rest i) (getD gs 0 0))) (rest i) (9 * n) (run 10 9 (λ k. getD gs k 0) (lead i) n))
-      (rest i + 9 * n)
-      s
-      (digits 10 s (getD gs (lead i + n) 0 / 10 ^ (9 - s)))
-      ≡ digitsTo Digits i f gs 9 ++ drop (sizeIn Digits i f) out
-  digits-all l hf =
-      let n = wholes i f in
-      let s = rest f in
-      let z = digits-size i f hf h in
-      let y : rest i + 9 * n + s ≡ i + f = omega arith in
-      three out _ _ _ (rest i) (9 * n) s (omega arith) (length-digits 10 (rest i) _) (length-run 10 9 _ (lead i) n) ∙ rw (to-sides Digits i f gs h, z, y)
-
--- ---- by form
+-- ---- the bytes that show the digits
 inverted-to : (i f : ℕ) (gs : List ℕ) (k : ℕ) → digitsTo Inverted i f gs k ≡ digitsTo Plain i f gs k
 unfolding digitsTo groupDigits
 inverted-to i f gs zero = refl
 inverted-to i f gs (suc k) = rw (inverted-to i f gs k)
 
-pub packed-size : (F : Form) (i f : ℕ) → packs F ≡ true → sizeIn F i f ≡ size i f
-packed-size Plain i f e = refl
-packed-size Inverted i f e = inverted-offset i f 9
-packed-size Digits i f e = absurd (true-not-false (sym e))
-
-pub digits-size-of : (F : Form) (i f : ℕ) → packs F ≡ false → sizeIn F i f ≡ sizeIn Digits i f
-digits-size-of Plain i f e = absurd (true-not-false e)
-digits-size-of Inverted i f e = absurd (true-not-false e)
-digits-size-of Digits i f e = refl
-
-module _ (i f : ℕ) (gs out : List ℕ) where
-  pub packed-form : (F : Form) → packs F ≡ true → 0 < size i f
-      → flipFirst (shaded (inverts F) (digitsTo Plain i f gs 9) ++ drop (size i f) out) ≡ bytesOf F (digitsTo F i f gs 9) ++ drop (sizeIn F i f) out
-  unfolding bytesOf shaded
-  packed-form Plain e h = flip-front (digitsTo Plain i f gs 9) (drop (size i f) out) (rw (length-to Plain i f gs 9) h)
-  packed-form Inverted e h =
-      rw (inverted-to i f gs 9, inverted-offset i f 9)
-      (flip-front (map invert (digitsTo Plain i f gs 9)) (drop (size i f) out) (rw (length-map (digitsTo Plain i f gs 9) invert, length-to Plain i f gs 9) h))
-  packed-form Digits e h = absurd (true-not-false (sym e))
-
-  pub digits-form : (F : Form) → packs F ≡ false → digitsTo Digits i f gs 9 ++ drop (sizeIn Digits i f) out ≡ bytesOf F (digitsTo F i f gs 9) ++ drop (sizeIn F i f) out
-  unfolding bytesOf
-  digits-form Plain e = absurd (true-not-false e)
-  digits-form Inverted e = absurd (true-not-false e)
-  digits-form Digits e = refl
+pub packed-form : (v : Bool) (i f : ℕ) (gs out : List ℕ) → 0 < size i f
+    → flipFirst (shaded v (digitsTo Plain i f gs 9) ++ drop (size i f) out) ≡ written (formOf v) i f gs ++ drop (size i f) out
+unfolding written bytesOf shaded
+packed-form false i f gs out h = flip-front (digitsTo Plain i f gs 9) (drop (size i f) out) (rw (length-to Plain i f gs 9) h)
+packed-form true i f gs out h =
+    rw (inverted-to i f gs 9)
+    (flip-front (map invert (digitsTo Plain i f gs 9)) (drop (size i f) out) (rw (length-map (digitsTo Plain i f gs 9) invert, length-to Plain i f gs 9) h))

@@ -1,10 +1,11 @@
 -- The rules of the sizes: a decimal's size is that of its two rests and its whole groups.
 -- Assumes nothing.
 use mathlib.Core.Path.{_≡_, refl}
+use mathlib.Core.Bool.{Bool, true, false}
 use Prim.Native.Nat.{ℕ, zero, suc, _+_, _*_, _/_, _^_, _≤_}
 use native.Mathlib.Omega.{arith}
 use lib.Dec.{leb, leb→le}
-use Rattle.groups.specs.Layout.{baseOf, wideOf, width, offset, sizeIn, size}
+use Rattle.groups.specs.Layout.{baseOf, wideOf, width, formOf, offset, sizeIn, size}
 use Rattle.groups.specs.declared.Form.{Form}
 use Rattle.groups.specs.declared.Form.the-variants.{Plain, Inverted, Digits}
 use Rattle.groups.proofs.Finite.{at}
@@ -23,21 +24,20 @@ closed-size i f h = let e = packed-sides i f h in omega arith
 pub digits-size : (i f : ℕ) → f ≤ 30 → i + f ≤ 65 → sizeIn Digits i f ≡ i + f
 digits-size i f hf h = let e = size-sides Digits i f h in omega arith
 
-packed-pos : (i f : ℕ) → i + f ≤ 65 → 1 ≤ i + f → 1 ≤ size i f
+-- a decimal with a digit takes a byte
+pub size-pos : (i f : ℕ) → i + f ≤ 65 → 1 ≤ i + f → 1 ≤ size i f
 unfolding width
-packed-pos i f h l = let e = packed-sides i f h in omega arith
+size-pos i f h l = let e = packed-sides i f h in omega arith
 
 -- inverted bytes are as many
-pub inverted-offset : (i f k : ℕ) → offset Inverted i f k ≡ offset Plain i f k
+inverted-offset : (i f k : ℕ) → offset Inverted i f k ≡ offset Plain i f k
 unfolding offset
 inverted-offset i f zero = refl
 inverted-offset i f (suc k) = rw (inverted-offset i f k)
 
--- a decimal with a digit takes a byte
-pub size-pos : (F : Form) (i f : ℕ) → f ≤ 30 → i + f ≤ 65 → 1 ≤ i + f → 1 ≤ sizeIn F i f
-size-pos Plain i f hf h l = packed-pos i f h l
-size-pos Inverted i f hf h l = rw (inverted-offset i f 9) (packed-pos i f h l)
-size-pos Digits i f hf h l = rw (digits-size i f hf h) l
+pub packed-size : (neg : Bool) (i f : ℕ) → sizeIn (formOf neg) i f ≡ size i f
+packed-size true i f = inverted-offset i f 9
+packed-size false i f = refl
 
 -- what a group's bytes write fits 32 bits
 pub form-fits : (F : Form) (d : ℕ) → d ≤ 9 → baseOf F ^ wideOf F d ≤ 2 ^ 32

@@ -11,7 +11,6 @@ use Rattle.groups.specs.Layout.{offset}
 use Rattle.groups.specs.Packed.{invert}
 use Rattle.groups.specs.Read.{rangeAt, storedAt}
 use Rattle.groups.specs.declared.Form.{Form}
-use Rattle.groups.specs.declared.Form.the-variants.{Plain, Inverted, Digits}
 use Rattle.groups.specs.declared.reader.One.{One}
 
 -- the group at place k as it is stored, if it is in range, and the place after it
@@ -32,17 +31,6 @@ laidAt out at w ds = take at out ++ (ds ++ drop (at + w) out)
 unfoldable pub run : ℕ → ℕ → (ℕ → ℕ) → ℕ → ℕ → List ℕ
 run b w g k zero = []
 run b w g k (suc n) = run b w g k n ++ digits b w (g (k + n))
-
--- whether a form is packed, and whether it inverts
-abbrev pub packs : Form → Bool
-packs Plain = true
-packs Inverted = true
-packs Digits = false
-
-abbrev pub inverts : Form → Bool
-inverts Plain = false
-inverts Inverted = true
-inverts Digits = false
 
 -- a number of four bytes with all its bits inverted, or as it is; and digits so
 unfoldable pub shade : Bool → ℕ → ℕ

@@ -5,7 +5,7 @@
 -- record holds 123400000 for the last.
 -- Assumes nothing.
 use Prim.Native.Nat.{ℕ, zero, suc, _+_, _-_, _*_, _/_, min}
-use mathlib.Core.Bool.{cond}
+use mathlib.Core.Bool.{Bool, true, false, cond}
 use lib.Dec.{ltb}
 use Rattle.groups.specs.declared.Form.{Form}
 use Rattle.groups.specs.declared.Form.the-variants.{Plain, Inverted, Digits}
@@ -25,6 +25,11 @@ side n j = min 9 (n - 9 * j)
 -- the digits of the group at place k, of i integral and f fractional digits
 unfoldable pub digitsAt : ℕ → ℕ → ℕ → ℕ
 digitsAt i f k = cond (ltb k (groupsOf i)) (side i (groupsOf i - 1 - k)) (side f (k - groupsOf i))
+
+-- a negative value is inverted
+abbrev pub formOf : Bool → Form
+formOf true = Inverted
+formOf false = Plain
 
 -- In the packed forms a group is written in bytes, base 256; as digits it is written a decimal digit to a byte.
 abbrev pub baseOf : Form → ℕ

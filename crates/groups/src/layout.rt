@@ -127,7 +127,7 @@ pub(crate) fn accepted(p: usize, s: usize) -> bool
 }
 
 // The bytes of all groups, packed: the sum over the groups of each side, of which all but one are whole.
-fn packed_size(intg: usize, frac: usize) -> usize
+pub(crate) fn packed_size(intg: usize, frac: usize) -> usize
     requires { ⌜ (frac ≤ 30) × (intg + frac ≤ 65) ⌝ }
     ensures { λ r. ⌜ r ≡ size intg frac ⌝ }
 {

@@ -1,4 +1,4 @@
-// The digits of a decimal in groups of nine: MySQL's packed form, and a digit to a byte.
+// The digits of a decimal in groups of nine: read and written in MySQL's packed form, and read from a digit to a byte.
 mod layout;
 mod reader;
 mod record;

@@ -1,9 +1,8 @@
 // Bytes out of groups.
 use super::Counted;
-use super::Form;
+use super::layout::packed_size;
 use super::layout::power;
 use super::layout::sides_of;
-use super::layout::size_in;
 use super::layout::width_of;
 use super::reader::flipped;
 use super::record::is_decimal;
@@ -13,45 +12,17 @@ ghost use mathlib.Core.List.{_++_};
 ghost use Prim.Native.Nat.{_+_, _-_, _*_, _/_, _^_, _<_, _≤_};
 ghost use lib.ListN.{length, getD, drop};
 ghost use Rattle.groups.specs.Numbers.{digits};
-ghost use Rattle.groups.specs.Layout.{width, sizeIn};
-ghost use Rattle.groups.specs.Packed.{flipFirst, bytesOf};
+ghost use Rattle.groups.specs.Layout.{width, size, formOf};
+ghost use Rattle.groups.specs.Packed.{flipFirst};
 ghost use Rattle.groups.specs.Write.{told, wellFormed, digitsTo, writeTold, writeLeaves};
-ghost use Rattle.groups.specs.Course.{laidAt, run, shade, shaded, inverts, packs};
-ghost use Rattle.groups.specs.declared.Form.the-variants.{Plain, Digits};
+ghost use Rattle.groups.specs.Course.{laidAt, run, shade, shaded};
+ghost use Rattle.groups.specs.declared.Form.the-variants.{Plain};
 
 fn low(x: u32) -> u8
     requires { ⌜ x < 256 ⌝ }
     ensures { λ r. ⌜ r ≡ x ⌝ }
 {
     x as u8
-}
-
-// Writes the two lowest digits of x.
-fn put_pair(out: &mut [u8], at: usize, x: u32)
-    requires { ⌜ at + 2 ≤ length (now out) ⌝ }
-    ensures { λ _. ⌜ now (out .exit) ≡ laidAt (now (out .entry)) at 2 (digits 10 2 x) ⌝ }
-{
-    let y = x % 100;
-    out[at + 1] = low(y % 10);
-    out[at] = low(y / 10);
-}
-
-// Writes the w lowest digits of x, highest first, from `at` on: two at a time, which halves the divisions.
-fn put_tens(out: &mut [u8], at: usize, w: usize, x: u32)
-    requires { ⌜ at + w ≤ length (now out) ⌝ }
-    ensures { λ _. ⌜ now (out .exit) ≡ laidAt (now (out .entry)) at w (digits 10 w x) ⌝ }
-{
-    let mut i = w;
-    let mut rest = x;
-    while 1 < i {
-        i -= 2;
-        put_pair(out, at + i, rest);
-        rest = rest / 100;
-    }
-    if i == 0 {
-        return;
-    }
-    out[at] = low(rest % 10);
 }
 
 // Writes bytes, of which a group has at most four, with no loop: LLVM makes of four stores one.
@@ -128,20 +99,6 @@ fn put_fours(
     p
 }
 
-fn put_nines(out: &mut [u8], at: usize, from: usize, to: usize, groups: &[u32; 9]) -> usize
-    requires { ⌜ (from ≤ to) × (to ≤ 9) ⌝ }
-    requires { ⌜ at + 9 * (to - from) ≤ length (now out) ⌝ }
-    ensures { λ r. ⌜ r ≡ at + 9 * (to - from) ⌝ }
-    ensures { λ _. ⌜ now (out .exit) ≡ laidAt (now (out .entry)) at (9 * (to - from)) (run 10 9 (λ k. getD (now (groups .entry)) k 0) from (to - from)) ⌝ }
-{
-    let mut p = at;
-    for k in from..to {
-        put_tens(out, p, 9, groups[k]);
-        p += 9;
-    }
-    p
-}
-
 // Writes the d integral digits that fill no whole group, and counts the bytes.
 fn put_head(out: &mut [u8], inverted: bool, d: usize, g: u32) -> usize
     requires { ⌜ (d ≤ 8) × (width d ≤ length (now out)) ⌝ }
@@ -169,48 +126,16 @@ fn put_last(out: &mut [u8], inverted: bool, at: usize, s: usize, g: u32)
     );
 }
 
-// Writes all groups in base 256: the integral rest, the whole groups of both sides, the rest of the fraction.
+// Writes all groups: the integral rest, the whole groups of both sides, the rest of the fraction.
 fn put_packed(out: &mut [u8], inverted: bool, intg: usize, frac: usize, groups: &[u32; 9])
-    requires { ⌜ (wellFormed intg frac (now groups) ≡ true) × (sizeIn Plain intg frac ≤ length (now out)) ⌝ }
-    ensures { λ _. ⌜ now (out .exit) ≡ shaded inverted (digitsTo Plain intg frac (now (groups .entry)) 9) ++ drop (sizeIn Plain intg frac) (now (out .entry)) ⌝ }
+    requires { ⌜ (wellFormed intg frac (now groups) ≡ true) × (size intg frac ≤ length (now out)) ⌝ }
+    ensures { λ _. ⌜ now (out .exit) ≡ shaded inverted (digitsTo Plain intg frac (now (groups .entry)) 9) ++ drop (size intg frac) (now (out .entry)) ⌝ }
 {
     let p = sides_of(intg, frac);
     let last = p.last;
     let w = put_head(out, inverted, p.lead, groups[0]);
     let at = put_fours(out, inverted, w, p.first, last, groups);
     put_last(out, inverted, at, p.tail, groups[last]);
-}
-
-// The same in base 10, a digit to a byte.
-fn put_digits(out: &mut [u8], intg: usize, frac: usize, groups: &[u32; 9])
-    requires { ⌜ (wellFormed intg frac (now groups) ≡ true) × (sizeIn Digits intg frac ≤ length (now out)) ⌝ }
-    ensures { λ _. ⌜ now (out .exit) ≡ digitsTo Digits intg frac (now (groups .entry)) 9 ++ drop (sizeIn Digits intg frac) (now (out .entry)) ⌝ }
-{
-    let p = sides_of(intg, frac);
-    let last = p.last;
-    put_tens(out, 0, p.lead, groups[0]);
-    let at = put_nines(out, p.lead, p.first, last, groups);
-    put_tens(out, at, p.tail, groups[last] / power(9 - p.tail));
-}
-
-fn is_packed(form: Form) -> bool
-    ensures { λ r. ⌜ r ≡ packs form ⌝ }
-{
-    match form {
-        Form::Plain => true,
-        Form::Inverted => true,
-        Form::Digits => false,
-    }
-}
-
-fn is_inverted(form: Form) -> bool
-    ensures { λ r. ⌜ r ≡ inverts form ⌝ }
-{
-    match form {
-        Form::Plain => false,
-        Form::Inverted => true,
-        Form::Digits => false,
-    }
 }
 
 fn flip_first(out: &mut [u8])
@@ -220,31 +145,19 @@ fn flip_first(out: &mut [u8])
     out[0] = flipped(out[0]);
 }
 
-// Writes all groups in a form.
-fn put_form(out: &mut [u8], form: Form, intg: usize, frac: usize, groups: &[u32; 9])
-    requires { ⌜ (wellFormed intg frac (now groups) ≡ true) × (sizeIn form intg frac ≤ length (now out)) ⌝ }
-    ensures { λ _. ⌜ now (out .exit) ≡ bytesOf form (digitsTo form intg frac (now (groups .entry)) 9) ++ drop (sizeIn form intg frac) (now (out .entry)) ⌝ }
-{
-    if is_packed(form) {
-        put_packed(out, is_inverted(form), intg, frac, groups);
-        flip_first(out);
-    } else {
-        put_digits(out, intg, frac, groups);
-    }
-}
-
-// Writes the groups of a decimal to the front of the output, and counts the bytes. A refusal changes nothing.
-pub fn write(out: &mut [u8], form: Form, intg: usize, frac: usize, groups: [u32; 9]) -> Counted
-    ensures { λ r. ⌜ told r ≡ writeTold form intg frac groups (now (out .entry)) ⌝ }
-    ensures { λ _. ⌜ now (out .exit) ≡ writeLeaves form intg frac groups (now (out .entry)) ⌝ }
+// Writes the groups of a decimal, inverted or not, to the front of the output, and counts the bytes. A refusal changes nothing.
+pub fn write(out: &mut [u8], inverted: bool, intg: usize, frac: usize, groups: [u32; 9]) -> Counted
+    ensures { λ r. ⌜ told r ≡ writeTold (formOf inverted) intg frac groups (now (out .entry)) ⌝ }
+    ensures { λ _. ⌜ now (out .exit) ≡ writeLeaves (formOf inverted) intg frac groups (now (out .entry)) ⌝ }
 {
     if !is_decimal(intg, frac, &groups) {
         return Counted::Refused(refusal::RECORD);
     }
-    let n = size_in(form, intg, frac);
+    let n = packed_size(intg, frac);
     if out.len() < n {
         return Counted::Refused(refusal::ROOM);
     }
-    put_form(out, form, intg, frac, &groups);
+    put_packed(out, inverted, intg, frac, &groups);
+    flip_first(out);
     Counted::Bytes(n)
 }

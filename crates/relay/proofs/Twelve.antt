@@ -14,14 +14,13 @@ use borrow.Author.Tests.{lt-ltb, le-ltb, eq-eqb, ne-eqb}
 use Rattle.layout.proofs.Cond.{yes, no}
 use Rattle.refusal.specs.Told.{Told, answer, refusal}
 use Rattle.groups.specs.Numbers.{tab}
-use Rattle.groups.specs.Layout.{width, digitsAt, wideOf, offset}
+use Rattle.groups.specs.Layout.{width, digitsAt, formOf, wideOf, offset}
 use Rattle.groups.specs.Write.{told as countTold, wellFormed, written, roomTold, writeTold}
 use Rattle.groups.specs.declared.Counted.{Counted}
 use Rattle.groups.specs.declared.Counted.the-variants.{Bytes, Refused}
 use Rattle.groups.proofs.Accept.{well-digits}
 use Rattle.groups.proofs.Store.{length-written}
 use Rattle.groups.proofs.Tab.{filled}
-use Rattle.decimal.specs.Read.{formOf}
 use Rattle.decimal.specs.Write.{isWell, writeBin, binLeaves}
 use Rattle.decimal.specs.Text.{printed, printTold, printLeaves}
 use Rattle.decimal.specs.Value.{compareTold}

@@ -4,12 +4,13 @@ use denote.Ref.{now}
 use Prim.Native.Nat.{_-_, _≤_}
 use mathlib.Core.Path.{_≡_, sym, _∙_, ap}
 use native.Mathlib.Omega.{arith}
+use Rattle.groups.specs.Layout.{formOf}
 use Rattle.groups.specs.Read.{readGroups}
 use Rattle.groups.specs.declared.Groups.{Groups}
 use Rattle.groups.specs.declared.Form.{Form}
 use Rattle.groups.proofs.Accept.{in-range}
 use Rattle.groups.proofs.Opened.{opened}
-use Rattle.decimal.specs.Read.{negative, formOf, accepted, fromGroups, readBin}
+use Rattle.decimal.specs.Read.{negative, accepted, fromGroups, readBin}
 use Rattle.decimal.proofs.Cases.{groups-refused, groups-read}
 use borrow.Author.Needs.{needs}
 use Rattle.decimal.proofs.Decimal.read_bin.Statement.{statement}

@@ -1,8 +1,9 @@
 -- In the packed forms the size is that of the groups, and as digits a byte for each.
 -- Assumes what the contract requires, and nothing else.
 use mathlib.Core.Path.{sym, _∙_}
+use mathlib.Core.Bool.{true}
 use borrow.Author.Needs.{needs}
-use Rattle.groups.proofs.Sizes.{digits-size, inverted-offset}
+use Rattle.groups.proofs.Sizes.{digits-size, packed-size}
 use Rattle.groups.proofs.layout.size_in.Statement.{statement}
 use Rattle.groups.proofs.layout.size_in.Tie as tie
 
@@ -30,7 +31,7 @@ returns c = c .packed-size .ensures ∙ sym (simp (c .before .enum-told .given .
 returns-2 : tie.Need-returns-2
 returns-2 c =
     let a = c .before .before .before .args in
-    c .packed-size2 .ensures ∙ sym (simp (c .before .enum-told2 .given .1) (inverted-offset (a .intg) (a .frac) 9))
+    c .packed-size2 .ensures ∙ sym (simp (c .before .enum-told2 .given .1) (packed-size true (a .intg) (a .frac)))
 
 returns-3 : tie.Need-returns-3
 returns-3 c =

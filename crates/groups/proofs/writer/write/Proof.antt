@@ -1,17 +1,39 @@
--- The refusals in their order change nothing; past them the groups are written in their form.
+-- The refusals in their order change nothing; past them the digits are written, inverted or not, and the first bit is flipped.
 -- Assumes nothing.
 use denote.Ref.{now}
-use mathlib.Core.Path.{_≡_, sym, _∙_}
+use mathlib.Core.Path.{_≡_, sym, _∙_, ap}
 use mathlib.Core.Bool.{true}
+use mathlib.Core.List.{List}
+use Prim.Native.Nat.{ℕ}
 use native.Mathlib.Omega.{arith}
+use lib.ListN.{length}
 use borrow.Author.Tests.{not-true, not-false}
+use Rattle.groups.specs.Layout.{formOf}
+use Rattle.groups.specs.Packed.{flipFirst}
 use Rattle.groups.specs.Write.{wellFormed, written, writeTold, writeLeaves}
 use Rattle.groups.proofs.Accept.{well-digits}
 use Rattle.groups.proofs.Store.{length-written}
+use Rattle.groups.proofs.Sizes.{packed-size, size-pos}
+use Rattle.groups.proofs.Parts.{packed-form}
 use Rattle.groups.proofs.Room.{short, fits}
 use borrow.Author.Needs.{needs}
 use Rattle.groups.proofs.writer.write.Statement.{statement}
 use Rattle.groups.proofs.writer.write.Tie as tie
+
+abbrev start : tie.Else1 → tie.Start
+start c = c .before .before .before .before
+
+well : (c : tie.Else1) → let a = start c .args in wellFormed (a .intg) (a .frac) (a .t5) ≡ true
+well c = sym (c .before .is-decimal .ensures) ∙ not-false (c .before .is-decimal .result) (c .if1 .left)
+
+abbrev bytes : tie.Else1 → List ℕ
+bytes c = let a = start c .args in written (formOf (a .inverted)) (a .intg) (a .frac) (a .t5)
+
+-- the size that is tested is that of the bytes
+count : (c : tie.After-packed-size) → length (bytes (c .before)) ≡ c .packed-size .result
+count c =
+    let a = start (c .before) .args in
+    length-written (formOf (a .inverted)) (a .intg) (a .frac) (a .t5) ∙ packed-size (a .inverted) (a .intg) (a .frac) ∙ sym (c .packed-size .ensures)
 
 is-decimal-requires : tie.Need-is-decimal-requires
 is-decimal-requires c κs = search needs
@@ -22,37 +44,46 @@ returns c =
     let e = sym (c .before .is-decimal .ensures) ∙ not-true (c .before .is-decimal .result) (c .if1 .taken) in
     (sym (simp e), sym (simp e))
 
-size-in-requires : tie.Need-size-in-requires
-size-in-requires c κs =
-    let a = c .before .before .before .before .args in
-    let w : wellFormed (a .intg) (a .frac) (a .t5) ≡ true = sym (c .before .is-decimal .ensures) ∙ not-false (c .before .is-decimal .result) (c .if1 .left) in
-    let h = well-digits (a .intg) (a .frac) (a .t5) w in
-    omega arith
+packed-size-requires : tie.Need-packed-size-requires
+packed-size-requires c κs = let a = start c .args in let h = well-digits (a .intg) (a .frac) (a .t5) (well c) in omega arith
 
 returns-2 : tie.Need-returns-2
 unfolding writeTold writeLeaves
 returns-2 c =
-    let a = c .before .before .before .before .before .before .args in
-    let w : wellFormed (a .intg) (a .frac) (a .t5) ≡ true = sym (c .before .before .before .is-decimal .ensures) ∙ not-false (c .before .before .before .is-decimal .result) (c .before .before .if1 .left) in
-    let r = short (written (a .form) (a .intg) (a .frac) (a .t5)) (now (a .out)) (length-written (a .form) (a .intg) (a .frac) (a .t5)) (rw (c .before .size-in .ensures) at (c .if2 .taken)) in
-    (sym (simp (w, r .0)), sym (simp (w, r .1)))
+    let e = c .before .before in
+    let r = short (bytes e) (now (start e .args .out)) (count (c .before)) (c .if2 .taken) in
+    (sym (simp (well e, r .0)), sym (simp (well e, r .1)))
 
-put-form-requires : tie.Need-put-form-requires
-put-form-requires c κs =
-    let a = c .before .before .before .before .before .before .before .before .args in
-    let w : wellFormed (a .intg) (a .frac) (a .t5) ≡ true = sym (c .before .before .before .before .before .is-decimal .ensures) ∙ not-false (c .before .before .before .before .before .is-decimal .result) (c .before .before .before .before .if1 .left) in
-    (w, rw (c .before .before .before .size-in .ensures) at (c .before .before .if2 .left))
+put-packed-requires : tie.Need-put-packed-requires
+put-packed-requires c κs =
+    let p = c .before .before .before in
+    (well (p .before), rw (p .packed-size .ensures) at (c .before .before .if2 .left))
+
+flip-first-requires : tie.Need-flip-first-requires
+flip-first-requires c κs =
+    let p = c .before .before .before .before .before .before .before in
+    let a = start (p .before) .args in
+    let h = well-digits (a .intg) (a .frac) (a .t5) (well (p .before)) in
+    let l = size-pos (a .intg) (a .frac) (h .1 .0) (h .0) in
+    let k = c .before .before .before .put-packed .kept .0 in
+    let s = p .packed-size .ensures in
+    omega arith
 
 same-length : tie.Need-same-length
 same-length c = search needs
 
 returns-3 : tie.Need-returns-3
-unfolding writeTold writeLeaves written
+unfolding writeTold writeLeaves
 returns-3 c =
-    let a = c .before .before .before .before .before .before .before .before .before .before .before .args in
-    let w : wellFormed (a .intg) (a .frac) (a .t5) ≡ true = sym (c .before .before .before .before .before .before .before .before .is-decimal .ensures) ∙ not-false (c .before .before .before .before .before .before .before .before .is-decimal .result) (c .before .before .before .before .before .before .before .if1 .left) in
-    let r = fits (written (a .form) (a .intg) (a .frac) (a .t5)) (now (a .out)) (length-written (a .form) (a .intg) (a .frac) (a .t5)) (rw (c .before .before .before .before .before .before .size-in .ensures) at (c .before .before .before .before .before .if2 .left)) in
-    (simp (w, r .0, c .before .before .before .before .before .before .size-in .ensures), c .before .before .put-form .ensures ∙ sym (simp (w, r .1)))
+    let p = c .before .before .before .before .before .before .before .before .before .before in
+    let e = p .before in
+    let a = start e .args in
+    let h = well-digits (a .intg) (a .frac) (a .t5) (well e) in
+    let r = fits (bytes e) (now (a .out)) (count p) (c .before .before .before .before .before .before .before .before .before .if2 .left) in
+    let o =
+    c .before .before .flip-first .ensures ∙ ap flipFirst (c .before .before .before .before .before .before .put-packed .ensures)
+    ∙ packed-form (a .inverted) (a .intg) (a .frac) (a .t5) (now (a .out)) (size-pos (a .intg) (a .frac) (h .1 .0) (h .0)) in
+    (simp (well e, r .0), rw (← p .packed-size .ensures) at o ∙ sym (simp (well e, r .1)))
 
 pub write-spec : {M : Type 1} → statement M
 write-spec =
@@ -60,8 +91,9 @@ write-spec =
     (tie.spec
     is-decimal-requires
     returns
-    size-in-requires
+    packed-size-requires
     returns-2
-    put-form-requires
+    put-packed-requires
+    flip-first-requires
     same-length
     returns-3)
