@@ -1,12 +1,13 @@
--- What a walk answers fits into 32 bits, and a view of no kind is no document's.
+-- What a walk answers fits into 32 bits and is told whole, and a view of no kind is no document's.
 -- Assumes nothing.
 use mathlib.Core.Path.{_≡_, refl, ap, _∙_}
 use mathlib.Core.Bool.{Bool, true, false, cond}
-use mathlib.Core.List.{List}
+use mathlib.Core.List.{List, [], _∷_}
 use Prim.Native.Nat.{ℕ, _≤_, _<_}
 use native.Mathlib.Omega.{arith}
 use lib.ListN.{length}
 use borrow.Author.Tests.{lt-ltb, le-ltb}
+use Rattle.refusal.specs.Told.{Told, answer}
 use Rattle.layout.proofs.Cond.{yes, no}
 use Rattle.content.specs.Reading.{placeFault, headerRead, headerAt}
 use Rattle.content.specs.declared.Header.{Header}
@@ -18,7 +19,10 @@ use Rattle.events.specs.declared.Walked.the-variants.{Done, Stopped}
 use Rattle.paths.specs.Shown.{Walks}
 use Rattle.walk_laws.proofs.Small.{done-small, stopped-small, stopped-near}
 use Rattle.value.specs.declared.View.{View}
-use Rattle.relay.specs.Documents.{kindBy, nowhere, viewBy, endTold, walkTold, walkLeaves, Small}
+use Rattle.lent.specs.Layout.{low}
+use Rattle.lent.proofs.Puts.{low-small}
+use Rattle.rows.specs.Rows.{walkedTold}
+use Rattle.relay.specs.Documents.{kindBy, nowhere, viewBy, endTold, walkTold, walkLeaves}
 
 -- ---- a view by its numbers
 module _ (c start size count : ℕ) where
@@ -41,10 +45,18 @@ nowhere-13 d true i x h = rw (le-ltb 16777216 (length d) h, nowhere-matches d h)
 nowhere-13 d false i x h = rw (le-ltb 16777216 (length d) h)
 
 -- ---- a walk
+abbrev ended : ℕ → ℕ → ℕ → Told
+ended f n p = record { number = f; values = n ∷ p ∷ [] }
+
 module _ (d out : List ℕ) where
-  pub small : (w : Walked) (left : List ℕ) → Walks d out w left → Small w
-  small (Done n) left p = omega (arith, done-small d out n left p)
-  small (Stopped f q n) left p = (omega (arith, stopped-near d out f q n left p), omega (arith, stopped-small d out f q n left p))
+  pub walk-told : (w : Walked) (left : List ℕ) → Walks d out w left → walkedTold w ≡ walkTold d out
+  unfolding walkTold
+  walk-told (Done n) left p =
+      ap (λ (m : ℕ). answer (m ∷ 0 ∷ [])) (low-small n (omega (arith, done-small d out n left p))) ∙ ap endTold (p .answer)
+  walk-told (Stopped f q n) left p =
+      ap (λ (m : ℕ). ended f m (low q)) (low-small n (omega (arith, stopped-small d out f q n left p)))
+      ∙ ap (ended f n) (low-small q (omega (arith, stopped-near d out f q n left p)))
+      ∙ ap endTold (p .answer)
 
   pub walked : {w : Walked} {left : List ℕ} → Walks d out w left → left ≡ walkLeaves d out
   unfolding walkLeaves

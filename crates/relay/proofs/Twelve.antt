@@ -1,145 +1,57 @@
--- Decimals as numbers: each case of the definitions by the tests that lead to it, and why the numbers that are narrowed fit into 32 bits: every decimal that is
--- answered has at most 65 digits, prints at most 67 characters and takes at most 36 bytes.
+-- Decimals as numbers. Every decimal that is answered has at most 65 digits, prints at most 67 characters and takes at most 36 bytes, so its numbers and counts are
+-- told whole, and not by their low 32 bits alone; and a list of fewer than twelve numbers has no digits, which is 26 before all else.
 -- Assumes nothing.
-use mathlib.Core.Path.{_≡_, refl, sym, ap, subst, _∙_}
+use mathlib.Core.Path.{_≡_, refl, sym, ap, _∙_}
 use mathlib.Core.Bool.{Bool, true, false, cond}
 use mathlib.Core.List.{List, [], _∷_}
-use Prim.Native.Nat.{ℕ, zero, suc, _+_, _*_, _/_, _≤_, _<_, min}
+use Prim.Native.Nat.{ℕ, zero, suc, _+_, _*_, _/_, _≤_, _<_}
 use native.Mathlib.Nat.{min-le-left}
 use native.Mathlib.Omega.{arith}
-use lib.Dec.{leb}
+use lib.Dec.{leb, ltb, eqb}
 use lib.ListN.{length, getD}
-use lib.Seq.{sets}
-use borrow.Author.Tests.{lt-ltb, le-ltb, eq-eqb, ne-eqb}
-use Rattle.layout.proofs.Cond.{yes, no}
 use Rattle.refusal.specs.Told.{Told, answer, refusal}
-use Rattle.groups.specs.Numbers.{tab}
+use Rattle.groups.specs.Numbers.{both}
 use Rattle.groups.specs.Layout.{width, digitsAt, formOf, wideOf, offset}
-use Rattle.groups.specs.Write.{told as countTold, wellFormed, written, roomTold, writeTold}
+use Rattle.groups.specs.Write.{told, digitsOk, wellFormed, written, roomTold, writeTold, writeLeaves}
 use Rattle.groups.specs.declared.Counted.{Counted}
 use Rattle.groups.specs.declared.Counted.the-variants.{Bytes, Refused}
 use Rattle.groups.proofs.Accept.{well-digits}
 use Rattle.groups.proofs.Store.{length-written}
-use Rattle.groups.proofs.Tab.{filled}
 use Rattle.decimal.specs.Write.{isWell, writeBin, binLeaves}
 use Rattle.decimal.specs.Text.{printed, printTold, printLeaves}
 use Rattle.decimal.specs.Value.{compareTold}
 use Rattle.decimal.specs.declared.Decimal.{Decimal}
 use Rattle.decimal.specs.declared.Answer.{Answer}
 use Rattle.decimal_laws.proofs.Lengths.{printed-length}
-use Rattle.rows.specs.Layout.{laid, flag}
-use Rattle.rows.proofs.Puts.{front, changed}
-use Rattle.relay.specs.Decimals.{decimalNumbers, decimalTold, decimalIn, held, writtenTold, writtenLeaves}
-use Rattle.relay.specs.Decimals.{printedTold, printedLeaves, orderTold, Narrow, Few}
+use Rattle.lent.specs.Layout.{low}
+use Rattle.lent.proofs.Puts.{low-small, changed}
+use Rattle.records.specs.Records.{decimalIn, noDigits, decimalBy, recordNumbers, recordTold, countedTold}
+use Rattle.relay.specs.Decimals.{decimalNumbers, decimalTold, held, writtenTold, writtenLeaves, printedTold, printedLeaves, orderTold}
 
--- ---- twelve numbers
-nine : (gs : List ℕ) → length gs ≡ 9 → tab 9 (λ k. getD gs k 0) ≡ gs
-nine gs e = sym (filled 9 (λ k. getD gs k 0) gs e (λ k h. refl))
-
-module _ (d : Decimal) (out : List ℕ) (e : length (d .groups) ≡ 9) (h : 12 ≤ length out) where
-  abbrev stored : ℕ → List ℕ → List ℕ
-  stored s gs = d .intg ∷ d .frac ∷ s ∷ gs
-
-  -- s is the sign as the callee gives it
-  pub decimal-laid : {s : ℕ} → s ≡ cond (d .sign) 1 0 → sets out 0 (stored s (tab 9 (λ k. getD (d .groups) k 0))) ≡ laid (decimalNumbers d) out
-  unfolding tab
-  decimal-laid {s} q =
-      front (stored s (tab 9 (λ k. getD (d .groups) k 0))) out h
-      ∙ ap (λ (gs : List ℕ). laid (stored s gs) out) (nine (d .groups) e)
-      ∙ ap (λ (n : ℕ). laid (stored n (d .groups)) out) q
-
-module _ (xs : List ℕ) where
-  abbrev made : ℕ → ℕ → List ℕ → Decimal
-  made i f gs = record { intg = i; frac = f; sign = flag (getD xs 2 0); groups = gs }
-
-  pub decimal-is : {i f : ℕ} {gs : List ℕ} → i ≡ getD xs 0 0 → f ≡ getD xs 1 0 → gs ≡ tab 9 (λ k. getD xs (k + 3) 0) → made i f gs ≡ decimalIn xs
-  unfolding decimalIn
-  decimal-is {i} {f} {gs} p q r =
-      ap (λ (n : ℕ). made n f gs) p ∙ ap (λ (n : ℕ). made (getD xs 0 0) n gs) q ∙ ap (made (getD xs 0 0) (getD xs 1 0)) r
-
--- ---- a decimal that is answered, or a refusal
-module _ (a : Answer) where
-  pub told-refused : (a .refusal ≡ 0 → ⊥) → refusal (a .refusal) ≡ decimalTold a
-  unfolding decimalTold
-  told-refused h = no _ (ne-eqb (a .refusal) 0 h) refl
-
-  pub told-accepted : a .refusal ≡ 0 → answer (decimalNumbers (a .decimal)) ≡ decimalTold a
-  unfolding decimalTold
-  told-accepted h = yes _ (eq-eqb (a .refusal) 0 h) refl
-
--- ---- what depends on a decimal
-module _ {A : Type 0} (xs : List ℕ) (none : A) (f : Decimal → A) where
-  pub held-none : length xs < 12 → none ≡ held xs none f
-  unfolding held
-  held-none h = yes _ (lt-ltb (length xs) 12 h) refl
-
-  -- d is the decimal as the callee gives it
-  pub held-some : {x : A} {d : Decimal} → 12 ≤ length xs → d ≡ decimalIn xs → x ≡ f d → x ≡ held xs none f
-  unfolding held
-  held-some h e p = no _ (le-ltb (length xs) 12 h) (p ∙ ap f e)
-
-module _ (xs bytes out : List ℕ) where
-  pub written-none : length xs < 12 → refusal 26 ≡ writtenTold xs bytes
-  unfolding writtenTold
-  written-none h = held-none xs (refusal 26) (λ d. writeBin d bytes) h
-
-  pub written-some : {t : Told} {d : Decimal} → 12 ≤ length xs → d ≡ decimalIn xs → t ≡ writeBin d bytes → t ≡ writtenTold xs bytes
-  unfolding writtenTold
-  written-some h e p = held-some xs (refusal 26) (λ d. writeBin d bytes) h e p
-
-  pub bytes-left : {left : List ℕ} → 1 ≤ length out → left ≡ held xs bytes (λ d. binLeaves d bytes) → left ≡ writtenLeaves xs bytes out
-  unfolding writtenLeaves
-  bytes-left h e = changed 1 out bytes (held xs bytes (λ d. binLeaves d bytes)) h e
-
-  pub printed-none : length xs < 12 → refusal 26 ≡ printedTold xs bytes
-  unfolding printedTold
-  printed-none h = held-none xs (refusal 26) (λ d. printTold d bytes) h
-
-  pub printed-some : {t : Told} {d : Decimal} → 12 ≤ length xs → d ≡ decimalIn xs → t ≡ printTold d bytes → t ≡ printedTold xs bytes
-  unfolding printedTold
-  printed-some h e p = held-some xs (refusal 26) (λ d. printTold d bytes) h e p
-
-  pub text-left : {left : List ℕ} → 1 ≤ length out → left ≡ held xs bytes (λ d. printLeaves d bytes) → left ≡ printedLeaves xs bytes out
-  unfolding printedLeaves
-  text-left h e = changed 1 out bytes (held xs bytes (λ d. printLeaves d bytes)) h e
-
-module _ (xs ys : List ℕ) where
-  abbrev against : Decimal → Told
-  against a = held ys (refusal 26) (λ b. compareTold a b)
-
-  pub order-left : length xs < 12 → refusal 26 ≡ orderTold xs ys
-  unfolding orderTold
-  order-left h = held-none xs (refusal 26) against h
-
-  pub order-right : 12 ≤ length xs → length ys < 12 → refusal 26 ≡ orderTold xs ys
-  unfolding orderTold
-  order-right h l = held-some xs (refusal 26) against h refl (held-none ys (refusal 26) (λ b. compareTold (decimalIn xs) b) l)
-
-  pub order-both : {t : Told} {a b : Decimal} → 12 ≤ length xs → 12 ≤ length ys → a ≡ decimalIn xs → b ≡ decimalIn ys →
-      t ≡ compareTold a b → t ≡ orderTold xs ys
-  unfolding orderTold
-  order-both {a = a} h l p q e = held-some xs (refusal 26) against h p (held-some ys (refusal 26) (λ b. compareTold a b) l q e)
-
--- ---- what fits
-pub narrow : {a b : Answer} → a ≡ b → isWell (b .decimal) ≡ true → Narrow (a .decimal)
-narrow {a} {b} e w =
-    let d = b .decimal in
+-- ---- a decimal that is answered
+numbers-whole : (d : Decimal) → isWell d ≡ true → recordNumbers d ≡ decimalNumbers d
+numbers-whole d w =
     let h = well-digits (d .intg) (d .frac) (d .groups) w in
-    subst (λ (x : Answer). Narrow (x .decimal)) (sym e) (omega arith, omega arith)
+    ap (λ (n : ℕ). n ∷ low (d .frac) ∷ cond (d .sign) 1 0 ∷ d .groups) (low-small (d .intg) (omega arith))
+    ∙ ap (λ (n : ℕ). d .intg ∷ n ∷ cond (d .sign) 1 0 ∷ d .groups) (low-small (d .frac) (omega arith))
 
-few : (bs out : List ℕ) (b : Bool) → (b ≡ true → length bs < 4294967296) → (c : Counted) → countTold c ≡ cond b (roomTold bs out) (refusal 26) → Few c
+-- b is what the contract tells, and a what the callee gives
+pub answer-told : {a b : Answer} → a ≡ b → isWell (b .decimal) ≡ true → recordTold a ≡ decimalTold b
+unfolding recordTold decimalTold
+answer-told {a} {b} e w =
+    ap recordTold e ∙ ap (λ (ns : List ℕ). cond (eqb (b .refusal) 0) (answer ns) (refusal (b .refusal))) (numbers-whole (b .decimal) w)
+
+-- ---- counts
+count-whole : (bs out : List ℕ) (b : Bool) → (b ≡ true → length bs < 4294967296) → (c : Counted) → told c ≡ cond b (roomTold bs out) (refusal 26) →
+    countedTold c ≡ told c
 unfolding roomTold
-few bs out b h (Refused n) e = tt
-few bs out false h (Bytes n) e = let z : _≡_ {A = ℕ} 0 26 = ap (λ (t : Told). t .number) e in absurd (omega arith)
-few bs out true h (Bytes n) e = go (leb (length bs) (length out)) e
+count-whole bs out b h (Refused n) e = refl
+count-whole bs out false h (Bytes n) e = let z : _≡_ {A = ℕ} 0 26 = ap (λ (t : Told). t .number) e in absurd (omega arith)
+count-whole bs out true h (Bytes n) e = ap (λ (m : ℕ). answer (m ∷ [])) (low-small n (go (leb (length bs) (length out)) e))
   where
     go : (b : Bool) → answer (n ∷ []) ≡ cond b (answer (length bs ∷ [])) (refusal 25) → n < 4294967296
     go true q = let z : n ≡ length bs = ap (λ (t : Told). getD (t .values) 0 0) q in omega (arith, h refl)
     go false q = let z : _≡_ {A = ℕ} 0 25 = ap (λ (t : Told). t .number) q in absurd (omega arith)
-
-pub few-printed : (d : Decimal) (out : List ℕ) (c : Counted) → countTold c ≡ printTold d out → Few c
-unfolding printTold
-few-printed d out c e = few (printed d) out (isWell d) (λ w. omega (arith, printed-length d w)) c e
 
 -- no group takes more than four bytes
 wide-four : (neg : Bool) (d : ℕ) → wideOf (formOf neg) d ≤ 4
@@ -152,8 +64,77 @@ unfolding offset
 offset-four neg i f zero = omega arith
 offset-four neg i f (suc k) = omega (arith, offset-four neg i f k, wide-four neg (digitsAt i f k))
 
-pub few-written : (d : Decimal) (out : List ℕ) (c : Counted) → countTold c ≡ writeBin d out → Few c
-unfolding writeTold
-few-written d out c e =
-    few (written (formOf (d .sign)) (d .intg) (d .frac) (d .groups)) out (wellFormed (d .intg) (d .frac) (d .groups))
-    (λ w. omega (arith, length-written (formOf (d .sign)) (d .intg) (d .frac) (d .groups), offset-four (d .sign) (d .intg) (d .frac) 9)) c e
+module _ (d : Decimal) (out : List ℕ) (c : Counted) where
+  printed-whole : told c ≡ printTold d out → countedTold c ≡ told c
+  unfolding printTold
+  printed-whole e = count-whole (printed d) out (isWell d) (λ w. omega (arith, printed-length d w)) c e
+
+  written-whole : told c ≡ writeBin d out → countedTold c ≡ told c
+  unfolding writeTold
+  written-whole e =
+      count-whole (written (formOf (d .sign)) (d .intg) (d .frac) (d .groups)) out (isWell d)
+      (λ w. omega (arith, length-written (formOf (d .sign)) (d .intg) (d .frac) (d .groups), offset-four (d .sign) (d .intg) (d .frac) 9)) c e
+
+-- ---- what depends on a decimal: f of no digits is what is told of no decimal
+held-by : {A : Type 0} (xs : List ℕ) (none : A) (f : Decimal → A) → f noDigits ≡ none → f (decimalBy xs) ≡ held xs none f
+unfolding held decimalBy
+held-by xs none f e = go (ltb (length xs) 12)
+  where
+    go : (b : Bool) → f (cond b noDigits (decimalIn xs)) ≡ cond b none (f (decimalIn xs))
+    go true = e
+    go false = refl
+
+no-digits : isWell noDigits ≡ false
+unfolding wellFormed digitsOk
+no-digits = refl
+
+-- d is the decimal as the callee gives it
+module _ (xs bytes : List ℕ) {d : Decimal} (e : d ≡ decimalBy xs) where
+  pub written-told : (c : Counted) → told c ≡ writeBin d bytes → countedTold c ≡ writtenTold xs bytes
+  unfolding writtenTold writeTold
+  written-told c q =
+      written-whole d bytes c q ∙ q ∙ ap (λ (x : Decimal). writeBin x bytes) e ∙ held-by xs (refusal 26) (λ x. writeBin x bytes) (rw no-digits)
+
+  pub printed-told : (c : Counted) → told c ≡ printTold d bytes → countedTold c ≡ printedTold xs bytes
+  unfolding printedTold printTold
+  printed-told c q =
+      printed-whole d bytes c q ∙ q ∙ ap (λ (x : Decimal). printTold x bytes) e ∙ held-by xs (refusal 26) (λ x. printTold x bytes) (rw no-digits)
+
+  module _ (out : List ℕ) (h : 1 ≤ length out) {left : List ℕ} where
+    pub written-left : left ≡ binLeaves d bytes → left ≡ writtenLeaves xs bytes out
+    unfolding writtenLeaves writeLeaves
+    written-left q =
+        changed 1 out bytes (held xs bytes (λ x. binLeaves x bytes)) h
+        (q ∙ ap (λ (x : Decimal). binLeaves x bytes) e ∙ held-by xs bytes (λ x. binLeaves x bytes) (rw no-digits))
+
+    pub printed-left : left ≡ printLeaves d bytes → left ≡ printedLeaves xs bytes out
+    unfolding printedLeaves printLeaves
+    printed-left q =
+        changed 1 out bytes (held xs bytes (λ x. printLeaves x bytes)) h
+        (q ∙ ap (λ (x : Decimal). printLeaves x bytes) e ∙ held-by xs bytes (λ x. printLeaves x bytes) (rw no-digits))
+
+-- ---- the order of two
+not-left : (b : Decimal) → compareTold noDigits b ≡ refusal 26
+unfolding compareTold
+not-left b = rw no-digits
+
+both-no : (t : Bool) → both t false ≡ false
+both-no true = refl
+both-no false = refl
+
+not-right : (a : Decimal) → compareTold a noDigits ≡ refusal 26
+unfolding compareTold
+not-right a = rw (no-digits, both-no (isWell a))
+
+module _ (xs ys : List ℕ) where
+  abbrev against : Decimal → Told
+  against a = held ys (refusal 26) (λ b. compareTold a b)
+
+  ordered : (a : Decimal) → compareTold a (decimalBy ys) ≡ against a
+  ordered a = held-by ys (refusal 26) (λ b. compareTold a b) (not-right a)
+
+  pub order-told : {t : Told} {a b : Decimal} → a ≡ decimalBy xs → b ≡ decimalBy ys → t ≡ compareTold a b → t ≡ orderTold xs ys
+  unfolding orderTold
+  order-told {t} {a} {b} p q e =
+      e ∙ ap (compareTold a) q ∙ ap (λ (x : Decimal). compareTold x (decimalBy ys)) p ∙ ordered (decimalBy xs)
+      ∙ held-by xs (refusal 26) against (sym (ordered noDigits) ∙ not-left (decimalBy ys))

@@ -1,21 +1,19 @@
 -- Decimals as numbers. A decimal is twelve: the integral digits, the digits after the point, the sign (0, else 1), and nine groups. A list that is shorter is
--- no decimal, 26; what stands behind the twelve is not read.
+-- no decimal, 26; what stands behind the twelve is not read. `decimalIn` of the crate records is the decimal of twelve numbers.
 -- Assumes nothing.
-use Prim.Native.Nat.{ℕ, _+_, _<_}
+use Prim.Native.Nat.{ℕ}
 use mathlib.Core.Bool.{cond}
 use mathlib.Core.List.{List, _∷_}
 use lib.Dec.{ltb, eqb}
-use lib.ListN.{length, getD}
+use lib.ListN.{length}
 use Rattle.refusal.specs.Told.{Told, answer, refusal}
-use Rattle.groups.specs.Numbers.{tab}
-use Rattle.groups.specs.declared.Counted.{Counted}
-use Rattle.groups.specs.declared.Counted.the-variants.{Bytes, Refused}
 use Rattle.decimal.specs.Write.{writeBin, binLeaves}
 use Rattle.decimal.specs.Text.{printTold, printLeaves}
 use Rattle.decimal.specs.Value.{compareTold}
 use Rattle.decimal.specs.declared.Decimal.{Decimal}
 use Rattle.decimal.specs.declared.Answer.{Answer}
-use Rattle.rows.specs.Layout.{flag, beside}
+use Rattle.lent.specs.Layout.{beside}
+use Rattle.records.specs.Records.{decimalIn}
 
 abbrev pub decimalNumbers : Decimal → List ℕ
 decimalNumbers d = d .intg ∷ d .frac ∷ cond (d .sign) 1 0 ∷ d .groups
@@ -23,10 +21,6 @@ decimalNumbers d = d .intg ∷ d .frac ∷ cond (d .sign) 1 0 ∷ d .groups
 -- a decimal that is answered, or its refusal
 unfoldable pub decimalTold : Answer → Told
 decimalTold a = cond (eqb (a .refusal) 0) (answer (decimalNumbers (a .decimal))) (refusal (a .refusal))
-
--- the decimal of twelve numbers
-unfoldable pub decimalIn : List ℕ → Decimal
-decimalIn xs = record { intg = getD xs 0 0; frac = getD xs 1 0; sign = flag (getD xs 2 0); groups = tab 9 (λ k. getD xs (k + 3) 0) }
 
 -- what depends on a decimal, where the list holds one
 unfoldable pub held : {A : Type 0} → List ℕ → A → (Decimal → A) → A
@@ -48,11 +42,3 @@ printedLeaves xs text out = beside 1 out text (held xs text (λ d. printLeaves d
 -- the order of two: 26 where either is none
 unfoldable pub orderTold : List ℕ → List ℕ → Told
 orderTold xs ys = held xs (refusal 26) (λ a. held ys (refusal 26) (λ b. compareTold a b))
-
--- what is required of the functions that narrow a number to 32 bits, and holds of every answer
-abbrev pub Narrow : Decimal → Type 0
-Narrow d = (d .intg < 4294967296) × (d .frac < 4294967296)
-
-abbrev pub Few : Counted → Type 0
-Few (Bytes n) = n < 4294967296
-Few (Refused n) = Unit {0}

@@ -1,6 +1,6 @@
 -- A view by its numbers, and how a walk ended as numbers.
 -- Assumes nothing.
-use Prim.Native.Nat.{ℕ, _%_, _<_}
+use Prim.Native.Nat.{ℕ, _%_}
 use mathlib.Core.Bool.{false, cond}
 use mathlib.Core.List.{List, [], _∷_}
 use lib.Dec.{ltb, eqb}
@@ -9,8 +9,6 @@ use Rattle.layout.specs.declared.Kind.{Kind}
 use Rattle.value.specs.declared.View.{View}
 use Rattle.content.specs.Reading.{kind, view}
 use Rattle.events.specs.Lay.{room}
-use Rattle.events.specs.declared.Walked.{Walked}
-use Rattle.events.specs.declared.Walked.the-variants.{Done, Stopped}
 use Rattle.paths.specs.Shown.{Answer, ends, shown, over}
 
 -- ---- a view by its numbers: the type code says its kind, 0 small object, 1 large object, 2 small array, 3 large array. Any other code is no
@@ -38,8 +36,3 @@ walkTold d events = endTold (ends (shown d (room events)) 0)
 
 unfoldable pub walkLeaves : List ℕ → List ℕ → List ℕ
 walkLeaves d events = over (shown d (room events)) events
-
--- what a walk answers fits into 32 bits, as walk_laws shows of every walk
-abbrev pub Small : Walked → Type 0
-Small (Done n) = n < 4294967296
-Small (Stopped f p n) = (p < 4294967296) × (n < 4294967296)

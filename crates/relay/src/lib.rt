@@ -1,25 +1,22 @@
 // The functions for programs in C and Rust: numbers and lent slices alone, and no demand on the caller. Each returns a refusal's number, or 0, and
 // stores its answer's numbers at the front of `answer`; an `answer` that is too short is refused by 25 before all else, and then nothing lent changes.
-mod decimals;
-mod walked;
-
 use decimal::Decimal;
-use decimals::decimal_in;
-use decimals::put_answer;
-use decimals::put_compared;
-use decimals::put_counted;
 use layout::Kind;
+use records::decimal_in;
+use records::put_answer;
+use records::put_compared;
+use records::put_counted;
 use rows::put_count;
 use rows::put_found;
 use rows::put_key;
+use rows::put_walked;
 use value::View;
-use walked::put_walked;
 ghost use mathlib.Core.Path.{_≡_};
 ghost use Rattle.gate.specs.Said.{readSaid};
 ghost use Rattle.jsonb.specs.Views.{rootRead, elemAt, keyAt, countAt};
 ghost use Rattle.decimal.specs.Read.{readBin, readPacked};
 ghost use Rattle.decimal.specs.Text.{parseText};
-ghost use Rattle.rows.specs.Layout.{Relays, beside, flag};
+ghost use Rattle.lent.specs.Layout.{Relays, beside, flag};
 ghost use Rattle.rows.specs.Rows.{valueTold, keyTold, countTold};
 ghost use Rattle.relay.specs.Documents.{viewBy, walkTold, walkLeaves};
 ghost use Rattle.relay.specs.Decimals.{decimalTold, writtenTold, writtenLeaves, printedTold, printedLeaves, orderTold};
@@ -172,9 +169,6 @@ pub extern "C" fn bratthelm_decimal_write_bin(
     if answer.len() < 1 {
         return 25;
     }
-    if decimal.len() < 12 {
-        return 26;
-    }
     let d = decimal_in(decimal);
     put_counted(answer, d.write_bin(bytes))
 }
@@ -192,9 +186,6 @@ pub extern "C" fn bratthelm_decimal_print(
     if answer.len() < 1 {
         return 25;
     }
-    if decimal.len() < 12 {
-        return 26;
-    }
     let d = decimal_in(decimal);
     put_counted(answer, d.print(text))
 }
@@ -204,15 +195,6 @@ pub extern "C" fn bratthelm_decimal_print(
 pub extern "C" fn bratthelm_decimal_compare(left: &[u32], right: &[u32], answer: &mut [u32]) -> u32
     ensures { λ r. ⌜ Relays 1 (orderTold (now (left .entry)) (now (right .entry))) (now (answer .entry)) r (now (answer .exit)) ⌝ }
 {
-    if answer.len() < 1 {
-        return 25;
-    }
-    if left.len() < 12 {
-        return 26;
-    }
-    if right.len() < 12 {
-        return 26;
-    }
     let a = decimal_in(left);
     put_compared(answer, a.compare(decimal_in(right)))
 }

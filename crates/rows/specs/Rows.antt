@@ -2,13 +2,14 @@
 -- 8 a container), its type code, and three more: for a truth value 1 or 0; for a number its 64 bits, the lower half and the upper; for a string start and
 -- length; for an opaque value start, length and column type; for a container start, size and count. What is not used is 0.
 -- Assumes nothing.
-use Prim.Native.Nat.{ℕ, _/_, _%_}
+use Prim.Native.Nat.{ℕ, _/_}
 use mathlib.Core.Bool.{cond}
 use mathlib.Core.List.{List, [], _∷_}
 use lib.Ieee.{binary64, toBits}
 use mir.Syntax.{w64}
 use mir.Val.{ofZ}
 use Rattle.refusal.specs.Told.{Told, answer, refusal}
+use Rattle.lent.specs.Layout.{low}
 use Rattle.value.specs.declared.Span.{Span}
 use Rattle.value.specs.declared.Number.{Number}
 use Rattle.value.specs.declared.Number.the-variants as number
@@ -18,6 +19,8 @@ use Rattle.value.specs.declared.Value.{Value}
 use Rattle.value.specs.declared.Value.the-variants as value
 use Rattle.gate.specs.Said.{Said, says, nothing, refuses}
 use Rattle.events.specs.Events.{span, codeOf, extraOf}
+use Rattle.events.specs.declared.Walked.{Walked}
+use Rattle.events.specs.declared.Walked.the-variants.{Done, Stopped}
 
 -- ---- values
 abbrev pub numberKind : Number → ℕ
@@ -44,10 +47,7 @@ bitsOf (number.Uint x) = x
 bitsOf (number.Double x) = toBits binary64 x
 bitsOf (number.Nan x) = x
 
--- a number of 64 bits as two of 32
-abbrev pub low : ℕ → ℕ
-low n = n % 4294967296
-
+-- a number of 64 bits as two of 32, `low` and this
 abbrev pub high : ℕ → ℕ
 high n = n / 4294967296
 
@@ -84,3 +84,8 @@ keyTold x = toldBy keyNumbers (0 ∷ 0 ∷ 0 ∷ []) x
 
 abbrev pub countTold : Said ℕ → Told
 countTold x = toldBy (λ n. n ∷ []) (0 ∷ []) x
+
+-- how a walk ended: the count of events and the place of the fault, which is 0 where there is none; so it is told of a refusal too
+abbrev pub walkedTold : Walked → Told
+walkedTold (Done n) = answer (low n ∷ 0 ∷ [])
+walkedTold (Stopped f p n) = record { number = f; values = low n ∷ low p ∷ [] }

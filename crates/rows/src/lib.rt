@@ -4,11 +4,13 @@ mod store;
 mod values;
 
 use events::Spot;
+use events::Walked;
 use gate::Found;
 use gate::Key;
 use jsonb::Count;
 use store::put_five;
 use store::put_three;
+use store::put_two;
 use value::Span;
 use value::Value;
 use values::holds;
@@ -18,8 +20,8 @@ ghost use Prim.Native.Nat.{_≤_};
 ghost use lib.ListN.{length};
 ghost use Rattle.gate.specs.Said.{foundSaid, keySaid};
 ghost use Rattle.jsonb.specs.Views.{countSaid};
-ghost use Rattle.rows.specs.Layout.{laid, Relays};
-ghost use Rattle.rows.specs.Rows.{valueNumbers, valueTold, keyTold, countTold};
+ghost use Rattle.lent.specs.Layout.{laid, Relays};
+ghost use Rattle.rows.specs.Rows.{valueNumbers, valueTold, keyTold, countTold, walkedTold};
 
 fn widen(n: u8) -> u32
     ensures { λ r. ⌜ r ≡ n ⌝ }
@@ -98,5 +100,32 @@ pub fn put_count(answer: &mut [u32], c: Count) -> u32
             0
         }
         Count::Refused(n) => widen(n),
+    }
+}
+
+// How a walk ended: two numbers, of a refusal too.
+pub fn put_walked(answer: &mut [u32], w: Walked) -> u32
+    ensures { λ r. ⌜ Relays 2 (walkedTold w) (now (answer .entry)) r (now (answer .exit)) ⌝ }
+{
+    if answer.len() < 2 {
+        return 25;
+    }
+    match w {
+        Walked::Done { count } => {
+            put_two(answer, (count % 4294967296) as u32, 0);
+            0
+        }
+        Walked::Stopped {
+            number,
+            place,
+            count,
+        } => {
+            put_two(
+                answer,
+                (count % 4294967296) as u32,
+                (place % 4294967296) as u32,
+            );
+            widen(number)
+        }
     }
 }

@@ -9,7 +9,8 @@ ghost use lib.Ieee.{binary64, toBits};
 ghost use mir.Syntax.{w64};
 ghost use mir.Val.{ofZ};
 ghost use Rattle.events.specs.Events.{span};
-ghost use Rattle.rows.specs.Rows.{numberKind, scalarKind, kindOf, bitsOf, low, high, scalarHolds, holds};
+ghost use Rattle.lent.specs.Layout.{low};
+ghost use Rattle.rows.specs.Rows.{numberKind, scalarKind, kindOf, bitsOf, high, scalarHolds, holds};
 
 fn one(b: bool) -> u32
     ensures { λ r. ⌜ r ≡ cond b 1 0 ⌝ }

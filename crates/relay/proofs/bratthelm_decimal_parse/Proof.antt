@@ -1,11 +1,9 @@
--- The decimal that is read is put; as every decimal that is answered is well formed, its numbers fit.
+-- The decimal that is read is put; as every decimal that is answered is well formed, its numbers are told whole.
 -- Assumes nothing.
 use denote.Ref.{now}
-use mathlib.Core.Path.{ap}
 use Rattle.decimal_laws.proofs.Formed.{parse-formed}
-use Rattle.relay.specs.Decimals.{decimalTold}
-use Rattle.rows.proofs.Puts.{same-told}
-use Rattle.relay.proofs.Twelve.{narrow}
+use Rattle.lent.proofs.Puts.{same-told}
+use Rattle.relay.proofs.Twelve.{answer-told}
 use borrow.Author.Needs.{needs}
 use Rattle.relay.proofs.bratthelm_decimal_parse.Statement.{statement}
 use Rattle.relay.proofs.bratthelm_decimal_parse.Tie as tie
@@ -14,13 +12,16 @@ parse-str-bytes-requires : tie.Need-parse-str-bytes-requires
 parse-str-bytes-requires c κs = search needs
 
 put-answer-requires : tie.Need-put-answer-requires
-put-answer-requires c κs = narrow (c .parse-str-bytes .ensures) (parse-formed (now (c .before .before .before .before .args .text)))
+put-answer-requires c κs = search needs
 
 same-length : tie.Need-same-length
 same-length c = search needs
 
 returns : tie.Need-returns
-returns c = same-told (ap decimalTold (c .before .before .before .parse-str-bytes .ensures)) (c .before .before .put-answer .ensures)
+returns c =
+    let a = c .before .before .before .before .before .before .before .args in
+    let parse-str-bytes = c .before .before .before .parse-str-bytes in
+    same-told (answer-told (parse-str-bytes .ensures) (parse-formed (now (a .text)))) (c .before .before .put-answer .ensures)
 
 pub bratthelm-decimal-parse-spec : {M : Type 1} → statement M
 bratthelm-decimal-parse-spec =

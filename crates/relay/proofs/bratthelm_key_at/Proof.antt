@@ -5,7 +5,7 @@ use mathlib.Core.Path.{ap, _∙_}
 use Rattle.value.specs.declared.View.{View}
 use Rattle.jsonb.specs.Views.{keyAt}
 use Rattle.rows.specs.Rows.{keyTold}
-use Rattle.rows.proofs.Puts.{same-told}
+use Rattle.lent.proofs.Puts.{same-told}
 use borrow.Author.Needs.{needs}
 use Rattle.relay.proofs.bratthelm_key_at.Statement.{statement}
 use Rattle.relay.proofs.bratthelm_key_at.Tie as tie

@@ -3,7 +3,7 @@
 use mathlib.Core.Path.{ap, _∙_}
 use Rattle.gate.specs.Said.{readSaid}
 use Rattle.rows.specs.Rows.{valueTold}
-use Rattle.rows.proofs.Puts.{same-told}
+use Rattle.lent.proofs.Puts.{same-told}
 use borrow.Author.Needs.{needs}
 use Rattle.relay.proofs.bratthelm_root.Statement.{statement}
 use Rattle.relay.proofs.bratthelm_root.Tie as tie

@@ -1,10 +1,9 @@
 -- The answer's room is tested first, and then nothing has changed; else the walk has listed what it shows, and how it ended is put.
 -- Assumes nothing.
 use denote.Ref.{now}
-use mathlib.Core.Path.{refl, ap}
-use Rattle.relay.specs.Documents.{endTold, walkTold}
-use Rattle.relay.proofs.Documents.{small, walked}
-use Rattle.rows.proofs.Puts.{too-short, same-told, as-it-was, changed}
+use mathlib.Core.Path.{refl}
+use Rattle.relay.proofs.Documents.{walk-told, walked}
+use Rattle.lent.proofs.Puts.{too-short, same-told, as-it-was, changed}
 use borrow.Author.Needs.{needs}
 use Rattle.relay.proofs.bratthelm_walk.Statement.{statement}
 use Rattle.relay.proofs.bratthelm_walk.Tie as tie
@@ -16,11 +15,7 @@ walk-requires : tie.Need-walk-requires
 walk-requires c κs = search needs
 
 put-walked-requires : tie.Need-put-walked-requires
-put-walked-requires c κs =
-    let a = c .before .before .before .before .before .before .before .before .before .args in
-    let if1 = c .before .before .before .before .before .if1 in
-    let walk = c .before .before .walk in
-    (if1 .left, small (now (a .doc)) (now (a .events)) (walk .result) _ (walk .ensures))
+put-walked-requires c κs = search needs
 
 same-length : tie.Need-same-length
 same-length c = search needs
@@ -29,12 +24,13 @@ same-length-2 : tie.Need-same-length-2
 same-length-2 c = search needs
 
 returns-2 : tie.Need-returns-2
-unfolding walkTold
 returns-2 c =
+    let a = c .before .before .before .before .before .before .before .before .before .before .before .before .args in
     let if1 = c .before .before .before .before .before .before .before .before .if1 in
     let walk = c .before .before .before .before .before .walk in
     let put-walked = c .before .before .put-walked in
-    (same-told (ap endTold (walk .ensures .answer)) (put-walked .ensures), changed 2 _ _ _ (if1 .left) (walked _ _ (walk .ensures)))
+    let told = walk-told (now (a .doc)) (now (a .events)) (walk .result) _ (walk .ensures) in
+    (same-told told (put-walked .ensures), changed 2 _ _ _ (if1 .left) (walked _ _ (walk .ensures)))
 
 pub bratthelm-walk-spec : {M : Type 1} → statement M
 bratthelm-walk-spec =

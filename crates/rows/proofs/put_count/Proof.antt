@@ -6,7 +6,7 @@ use mathlib.Core.List.{[], _∷_}
 use Rattle.jsonb.specs.Views.{countSaid}
 use Rattle.jsonb.specs.declared.Count.{Count}
 use Rattle.rows.specs.Rows.{countTold}
-use Rattle.rows.proofs.Puts.{front, too-short, stores, stores-none}
+use Rattle.lent.proofs.Puts.{front, too-short, stores, stores-none}
 use borrow.Author.Needs.{needs}
 use Rattle.rows.proofs.put_count.Statement.{statement}
 use Rattle.rows.proofs.put_count.Tie as tie

@@ -4,7 +4,7 @@ use mathlib.Core.Path.{refl, sym, ap}
 use Rattle.gate.specs.Said.{foundSaid}
 use Rattle.gate.specs.declared.Found.{Found}
 use Rattle.rows.specs.Rows.{valueTold}
-use Rattle.rows.proofs.Puts.{too-short, stores, stores-none}
+use Rattle.lent.proofs.Puts.{too-short, stores, stores-none}
 use borrow.Author.Needs.{needs}
 use Rattle.rows.proofs.put_found.Statement.{statement}
 use Rattle.rows.proofs.put_found.Tie as tie

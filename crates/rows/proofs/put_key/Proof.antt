@@ -4,7 +4,7 @@ use mathlib.Core.Path.{refl, sym, ap}
 use Rattle.gate.specs.Said.{keySaid}
 use Rattle.gate.specs.declared.Key.{Key}
 use Rattle.rows.specs.Rows.{keyTold}
-use Rattle.rows.proofs.Puts.{too-short, stores, stores-none}
+use Rattle.lent.proofs.Puts.{too-short, stores, stores-none}
 use borrow.Author.Needs.{needs}
 use Rattle.rows.proofs.put_key.Statement.{statement}
 use Rattle.rows.proofs.put_key.Tie as tie

@@ -7,7 +7,7 @@ use Prim.Native.Nat.{ℕ}
 use Rattle.value.specs.declared.Span.{Span}
 use Rattle.events.specs.declared.Event.{Event}
 use Rattle.events.specs.Events.{codeOf, extraOf}
-use Rattle.rows.specs.Layout.{laid}
+use Rattle.lent.specs.Layout.{laid}
 use Rattle.rows.specs.Rows.{kindOf}
 use borrow.Author.Needs.{needs}
 use Rattle.rows.proofs.put_value.Statement.{statement}

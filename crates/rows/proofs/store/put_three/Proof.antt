@@ -4,7 +4,7 @@ use denote.Ref.{now}
 use mathlib.Core.List.{[], _∷_}
 use native.Mathlib.Omega.{arith}
 use lib.ListN.{length-set}
-use Rattle.rows.proofs.Puts.{front}
+use Rattle.lent.proofs.Puts.{front}
 use borrow.Author.Needs.{needs}
 use Rattle.rows.proofs.store.put_three.Statement.{statement}
 use Rattle.rows.proofs.store.put_three.Tie as tie

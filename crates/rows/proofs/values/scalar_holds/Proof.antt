@@ -3,7 +3,8 @@
 use mathlib.Core.Path.{sym, ap, _∙_}
 use Prim.Native.Nat.{ℕ}
 use Rattle.events.specs.Events.{span}
-use Rattle.rows.specs.Rows.{low, high, scalarHolds}
+use Rattle.lent.specs.Layout.{low}
+use Rattle.rows.specs.Rows.{high, scalarHolds}
 use borrow.Author.Needs.{needs}
 use Rattle.rows.proofs.values.scalar_holds.Statement.{statement}
 use Rattle.rows.proofs.values.scalar_holds.Tie as tie
