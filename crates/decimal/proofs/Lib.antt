@@ -1,4 +1,2 @@
-pub mod Lex
-pub mod Values
 pub mod Cases
 pub mod Texts

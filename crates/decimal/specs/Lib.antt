@@ -2,4 +2,3 @@ pub mod Read
 pub mod Write
 pub mod Value
 pub mod Text
-pub mod Course

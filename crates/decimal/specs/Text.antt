@@ -14,7 +14,7 @@ use Rattle.printing.specs.Print.{textOf}
 use Rattle.numeral.specs.declared.Numeral.{Numeral}
 use Rattle.decimal.specs.Read.{refused, accepted}
 use Rattle.decimal.specs.Write.{isWell}
-use Rattle.decimal.specs.Value.{belowZero}
+use Rattle.order.specs.Value.{belowZero}
 use Rattle.decimal.specs.declared.Decimal.{Decimal}
 use Rattle.decimal.specs.declared.Answer.{Answer}
 

@@ -1,14 +1,15 @@
 // MySQL's decimals: packed bytes and text, there and back, and their order by value.
-mod order;
 mod reader;
 
 pub use groups::Counted;
+pub use order::Compared;
 ghost use mathlib.Core.Path.{_≡_};
 ghost use Rattle.groups.specs.Write.{sizeOf, told as countTold};
+ghost use Rattle.order.specs.Value.{told};
 ghost use Rattle.decimal.specs.Read.{readBin, readPacked};
 ghost use Rattle.decimal.specs.Write.{binSize, writeBin, binLeaves};
 ghost use Rattle.decimal.specs.Text.{parseText, printTold, printLeaves};
-ghost use Rattle.decimal.specs.Value.{compareTold, told};
+ghost use Rattle.decimal.specs.Value.{compareTold};
 
 // A decimal: as many integral and fractional digits, a sign, and the digits in groups of nine from the point outwards. The groups of
 // the fraction are stored as if each had nine digits, and unused groups are 0.
@@ -23,14 +24,6 @@ pub struct Decimal {
 pub struct Answer {
     pub refusal: u8,
     pub decimal: Decimal,
-}
-
-// The order of two decimals by value, or a refusal.
-pub enum Compared {
-    Less,
-    Equal,
-    Greater,
-    Refused(u8),
 }
 
 // The bytes that a decimal of this precision and scale takes.
@@ -118,13 +111,16 @@ impl Decimal {
         ensures { λ r. ⌜ told r ≡ compareTold self other ⌝ }
     {
         let a = self.groups;
-        if !groups::well_formed(self.intg, self.frac, a) {
-            return Compared::Refused(refusal::RECORD);
-        }
         let b = other.groups;
-        if !groups::well_formed(other.intg, other.frac, b) {
-            return Compared::Refused(refusal::RECORD);
-        }
-        order::compare_values(self, other)
+        order::compare(
+            self.sign,
+            self.intg,
+            self.frac,
+            a,
+            other.sign,
+            other.intg,
+            other.frac,
+            b,
+        )
     }
 }

@@ -1,7 +1,6 @@
 // From groups to a decimal.
 use super::Answer;
 use super::Decimal;
-use super::order::below_zero;
 use groups::Form;
 ghost use mathlib.Core.Path.{_≡_};
 ghost use Prim.Native.Nat.{_+_, _<_, _≤_};
@@ -65,7 +64,7 @@ fn leading(groups: &[u32; 9], n: usize) -> usize
     z
 }
 
-pub(crate) fn group_or_zero(groups: &[u32; 9], i: usize) -> u32
+fn group_or_zero(groups: &[u32; 9], i: usize) -> u32
     requires { ⌜ length (now groups) ≡ 9 ⌝ }
     ensures { λ r. ⌜ r ≡ getD (now (groups .entry)) i 0 ⌝ }
 {
@@ -137,7 +136,7 @@ pub(crate) fn of_digits(negative: bool, intg: usize, frac: usize, digits: [u8; 6
     Decimal {
         intg,
         frac,
-        sign: below_zero(negative, &gs),
+        sign: order::below_zero(negative, gs),
         groups: gs,
     }
 }

@@ -10,9 +10,9 @@ use Rattle.refusal.proofs.Answers.{one-answer}
 use Rattle.groups.specs.Write.{told as countTold}
 use Rattle.groups.specs.declared.Counted.{Counted}
 use Rattle.groups.specs.declared.Counted.the-variants as counted
-use Rattle.decimal.specs.Value.{told as orderTold}
-use Rattle.decimal.specs.declared.Compared.{Compared}
-use Rattle.decimal.specs.declared.Compared.the-variants as compared
+use Rattle.order.specs.Value.{told as orderTold}
+use Rattle.order.specs.declared.Compared.{Compared}
+use Rattle.order.specs.declared.Compared.the-variants as compared
 
 counted-by : Told → Counted
 counted-by t = cond (eqb (length (t .values)) 0) (counted.Refused (t .number)) (counted.Bytes (getD (t .values) 0 0))

@@ -29,7 +29,7 @@ use Rattle.decimal.specs.Read.{negative, nought, decimalOf, without, finished, 
 use Rattle.decimal.specs.Write.{isWell}
 use Rattle.decimal.specs.Text.{ofDigits, ofNumeral, parseText}
 use Rattle.decimal.specs.declared.Decimal.{Decimal}
-use Rattle.decimal.proofs.Lex.{pow-pos-of}
+use Rattle.order.proofs.Lex.{pow-pos-of}
 use Rattle.decimal_laws.proofs.Bytes.{digits-below}
 use Rattle.decimal_laws.proofs.Kept.{leading-le, whole-groups, answered}
 use Rattle.decimal_laws.proofs.Weights.{rounded}

@@ -22,10 +22,11 @@ use Rattle.groups.proofs.Accept.{in-range}
 use Rattle.groups.proofs.Tab.{tab-at, length-tab, filled}
 use Rattle.groups.proofs.Opened.{opened, reads}
 use Rattle.decimal.specs.Read.{negative, nought, decimalOf, without, finished, refused, accepted, fromGroups, readBin, readPacked}
-use Rattle.decimal.specs.Value.{magnitude, signed, value}
+use Rattle.order.specs.Value.{magnitude, signed}
+use Rattle.decimal.specs.Value.{value}
 use Rattle.decimal.specs.declared.Decimal.{Decimal}
 use Rattle.decimal.specs.declared.Answer.{Answer}
-use Rattle.decimal.proofs.Lex.{zeros-before, zeros-after, at-after, all-zero}
+use Rattle.order.proofs.Lex.{zeros-before, zeros-after, at-after, all-zero}
 
 -- ---- leading zeros
 pub leading-le : (n : ℕ) (gs : List ℕ) → leadingIn n gs ≤ n

@@ -13,7 +13,7 @@ use Rattle.groups.specs.declared.Form.the-variants.{Digits}
 use Rattle.numeral.specs.Read.{readText}
 use Rattle.numeral.proofs.Limits.{read-within}
 use Rattle.decimal.specs.Write.{isWell}
-use Rattle.decimal.specs.Value.{magnitude}
+use Rattle.order.specs.Value.{magnitude}
 use Rattle.decimal.specs.Text.{ofDigits, ofNumeral, parseText, digitsOf}
 use Rattle.decimal.specs.declared.Decimal.{Decimal}
 use Rattle.decimal.proofs.Texts.{text-read}

@@ -25,7 +25,8 @@ use Rattle.printing.specs.Print.{show, signText, wholeDigits, fractionText}
 use Rattle.numeral.specs.declared.Numeral.{Numeral}
 use Rattle.decimal.specs.Read.{accepted}
 use Rattle.decimal.specs.Write.{isWell}
-use Rattle.decimal.specs.Value.{magnitude, signed, value, isNought, belowZero}
+use Rattle.order.specs.Value.{magnitude, signed, isNought, belowZero}
+use Rattle.decimal.specs.Value.{value}
 use Rattle.decimal.specs.Text.{ofDigits, ofNumeral, parseText, digitsOf, printed}
 use Rattle.decimal.specs.declared.Decimal.{Decimal}
 use Rattle.decimal.specs.declared.Answer.{Answer}

@@ -15,7 +15,7 @@ use Rattle.groups.specs.Layout.{side, groupsOf}
 use Rattle.groups.proofs.Accept.{both-true}
 use Rattle.groups.proofs.Opened.{below-take}
 use Rattle.printing.specs.Print.{unpadded, firstDigits, wholeDigits}
-use Rattle.decimal.proofs.Lex.{zeros-before}
+use Rattle.order.proofs.Lex.{zeros-before}
 
 -- zs is xs without `zeros` zeros at the front, and a digit is left
 pub record Trimmed (xs zs : List ℕ) : Type 0 where

@@ -18,7 +18,7 @@ use Rattle.groups.specs.declared.Form.the-variants.{Digits}
 use Rattle.groups.proofs.Radix.{number-snoc}
 use Rattle.groups.proofs.Sizes.{digits-size}
 use Rattle.groups.proofs.Places.{within}
-use Rattle.decimal.specs.Value.{magnitude}
+use Rattle.order.specs.Value.{magnitude}
 
 -- ---- lists
 tab-none : (f : ℕ → ℕ) → tab 0 f ≡ []

@@ -7,7 +7,7 @@ use Prim.Native.Nat.{_≤_}
 use lib.ListN.{length, take}
 use Rattle.printing.specs.Print.{wholeDigits}
 use Rattle.decimal.specs.Text.{digitsOf, printed}
-use Rattle.decimal.specs.Value.{isNought}
+use Rattle.order.specs.Value.{isNought}
 use Rattle.decimal.specs.declared.Decimal.{Decimal}
 
 pub record Same (d : Decimal) : Type 0 where

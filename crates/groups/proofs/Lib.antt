@@ -6,6 +6,7 @@ pub mod Sizes
 pub mod Radix
 pub mod Marks
 pub mod Places
+pub mod Base
 pub mod Store
 pub mod Room
 pub mod Opened

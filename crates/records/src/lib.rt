@@ -11,7 +11,7 @@ ghost use Prim.Native.Nat.{_+_, _≤_};
 ghost use lib.ListN.{length, getD};
 ghost use lib.Seq.{paste};
 ghost use Rattle.groups.specs.Numbers.{tab};
-ghost use Rattle.decimal.specs.Value.{told};
+ghost use Rattle.order.specs.Value.{told};
 ghost use Rattle.lent.specs.Layout.{laid, Relays};
 ghost use Rattle.records.specs.Records.{decimalBy, recordNumbers, recordTold, countedTold};
 

@@ -1,7 +1,7 @@
 -- The slice's room is tested first. The three orders are told by 0, 1 and 2, and that is put.
 -- Assumes nothing.
 use mathlib.Core.Path.{refl, sym, ap}
-use Rattle.decimal.specs.Value.{told}
+use Rattle.order.specs.Value.{told}
 use Rattle.lent.proofs.Puts.{too-short, stores, stores-none}
 use borrow.Author.Needs.{needs}
 use Rattle.records.proofs.put_compared.Statement.{statement}

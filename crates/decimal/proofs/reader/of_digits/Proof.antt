@@ -25,10 +25,10 @@ below-zero-requires c κs = search needs
 returns : tie.Need-returns
 unfolding ofDigits
 returns c =
-    let s = c .before .before .before .before .before in
+    let s = c .before .before .before .before in
     let a = s .args in
     let n : length (a .t4) ≡ 65 = search needs in
-    let e = c .before .before .before .read .ensures ∙ digits-read (a .intg) (a .frac) (a .t4) (s .pre .0 .0) (s .pre .0 .1) (omega arith) (s .pre .1) in
+    let e = c .before .before .read .ensures ∙ digits-read (a .intg) (a .frac) (a .t4) (s .pre .0 .0) (s .pre .0 .1) (omega arith) (s .pre .1) in
     simp (c .below-zero .ensures, ap (λ (g : Groups). g .groups) e)
 
 pub of-digits-spec : {M : Type 1} → statement M

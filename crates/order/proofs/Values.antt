@@ -10,10 +10,10 @@ use lib.Dec.{T, eqb, lit<, leb·suc-suc, eqb·suc-zero}
 use lib.IntN.{pos}
 use borrow.Author.Tests.{ne-eqb}
 use Rattle.groups.specs.Numbers.{number, both}
-use Rattle.decimal.specs.Value.{magnitude, signed, isNought, belowZero, orderZ}
-use Rattle.decimal.specs.Course.{orderN}
-use Rattle.decimal.specs.declared.Compared.the-variants.{Less, Greater}
-use Rattle.decimal.proofs.Lex.{pow-pos-of}
+use Rattle.order.specs.Value.{magnitude, signed, isNought, belowZero, orderZ}
+use Rattle.order.specs.Course.{orderN}
+use Rattle.order.specs.declared.Compared.the-variants.{Less, Greater}
+use Rattle.order.proofs.Lex.{pow-pos-of}
 
 -- ---- signs
 pub both-neg : (s t : Bool) (x y : ℕ) → both s (not (eqb x 0)) ≡ true → both t (not (eqb y 0)) ≡ true → orderZ (signed s x) (signed t y) ≡ orderN y x

@@ -3,9 +3,9 @@
 use mathlib.Core.Path.{_∙_}
 use denote.Ref.{now}
 use borrow.Author.Needs.{needs}
-use Rattle.decimal.proofs.Lex.{order-scaled}
-use Rattle.decimal.proofs.order.order_of.Statement.{statement}
-use Rattle.decimal.proofs.order.order_of.Tie as tie
+use Rattle.order.proofs.Lex.{order-scaled}
+use Rattle.order.proofs.order_of.Statement.{statement}
+use Rattle.order.proofs.order_of.Tie as tie
 
 aligned-requires : tie.Need-aligned-requires
 aligned-requires c κs = c .before .pre .1

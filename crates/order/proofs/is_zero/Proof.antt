@@ -9,10 +9,10 @@ use native.Mathlib.Omega.{arith}
 use denote.Ref.{now}
 use lib.Dec.{lit<}
 use lib.ListN.{length, getD}
-use Rattle.decimal.specs.Value.{isNought}
-use Rattle.decimal.proofs.Lex.{nonzero, all-zero}
-use Rattle.decimal.proofs.order.is_zero.Statement.{statement}
-use Rattle.decimal.proofs.order.is_zero.Tie as tie
+use Rattle.order.specs.Value.{isNought}
+use Rattle.order.proofs.Lex.{nonzero, all-zero}
+use Rattle.order.proofs.is_zero.Statement.{statement}
+use Rattle.order.proofs.is_zero.Tie as tie
 
 abbrev Inv-loop : tie.InvT-loop
 Inv-loop a k₀ k = (k ≤ 9) × ((j : ℕ) → j < k → getD a j 0 ≡ 0)

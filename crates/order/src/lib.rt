@@ -1,15 +1,18 @@
-// The order of decimals by value.
-use super::Compared;
-use super::Decimal;
-use super::reader::group_or_zero;
+// The order of decimals by value, of their signs, digits and groups.
 ghost use mathlib.Core.Path.{_≡_};
-ghost use mathlib.Core.Bool.{true};
 ghost use Prim.Native.Nat.{_<_, _≤_};
 ghost use lib.ListN.{length, getD};
 ghost use Rattle.groups.specs.Numbers.{number};
-ghost use Rattle.decimal.specs.Write.{isWell};
-ghost use Rattle.decimal.specs.Value.{magnitude, value, isNought, belowZero, orderZ};
-ghost use Rattle.decimal.specs.Course.{NineGroups, placed, orderN};
+ghost use Rattle.order.specs.Value.{magnitude, valueOf, isNought, belowZero, told, orderZ, compareTold};
+ghost use Rattle.order.specs.Course.{NineGroups, placed, orderN};
+
+// The order of two decimals by value, or a refusal.
+pub enum Compared {
+    Less,
+    Equal,
+    Greater,
+    Refused(u8),
+}
 
 // The group at place k of seventeen, of which eight are before the point.
 fn place(groups: &[u32; 9], n: usize, k: usize) -> u32
@@ -17,10 +20,10 @@ fn place(groups: &[u32; 9], n: usize, k: usize) -> u32
     ensures { λ r. ⌜ r ≡ getD (placed n (now (groups .entry))) k 0 ⌝ }
 {
     if k + n < 8 {
-        0
-    } else {
-        group_or_zero(groups, k + n - 8)
+        return 0;
     }
+    let i = k + n - 8;
+    if i < 9 { groups[i] } else { 0 }
 }
 
 // The order of two magnitudes whose points do not meet: the first place where they differ decides.
@@ -85,35 +88,63 @@ fn is_zero(a: &[u32; 9]) -> bool
     true
 }
 
-pub(crate) fn below_zero(negative: bool, a: &[u32; 9]) -> bool
+fn is_below(negative: bool, a: &[u32; 9]) -> bool
     requires { ⌜ length (now a) ≡ 9 ⌝ }
     ensures { λ r. ⌜ r ≡ belowZero negative (now (a .entry)) ⌝ }
 {
     if negative { !is_zero(a) } else { false }
 }
 
-// The order of the values of two well formed decimals.
-pub(crate) fn compare_values(a: Decimal, b: Decimal) -> Compared
-    requires { ⌜ (isWell a ≡ true) × (isWell b ≡ true) ⌝ }
-    ensures { λ r. ⌜ r ≡ orderZ (value a) (value b) ⌝ }
+// Whether the value with this sign and these groups is below zero: a zero is not, whatever its sign.
+pub fn below_zero(negative: bool, groups: [u32; 9]) -> bool
+    ensures { λ r. ⌜ r ≡ belowZero negative groups ⌝ }
 {
-    let ga = a.groups;
-    let gb = b.groups;
-    let m = (a.intg + 8) / 9;
-    let n = (b.intg + 8) / 9;
-    let na = below_zero(a.sign, &ga);
-    let nb = below_zero(b.sign, &gb);
-    if na {
-        if nb {
-            order_of(&gb, n, &ga, m)
+    is_below(negative, &groups)
+}
+
+// The order of two values.
+fn compare_values(na: bool, ia: usize, a: &[u32; 9], nb: bool, ib: usize, b: &[u32; 9]) -> Compared
+    requires { ⌜ (ia ≤ 65) × (ib ≤ 65) ⌝ }
+    requires { ⌜ NineGroups (now a) × NineGroups (now b) ⌝ }
+    ensures { λ r. ⌜ r ≡ orderZ (valueOf na ia (now (a .entry))) (valueOf nb ib (now (b .entry))) ⌝ }
+{
+    let m = (ia + 8) / 9;
+    let n = (ib + 8) / 9;
+    let below_a = is_below(na, a);
+    let below_b = is_below(nb, b);
+    if below_a {
+        if below_b {
+            order_of(b, n, a, m)
         } else {
             Compared::Less
         }
     } else {
-        if nb {
+        if below_b {
             Compared::Greater
         } else {
-            order_of(&ga, m, &gb, n)
+            order_of(a, m, b, n)
         }
     }
+}
+
+// The order of the values of two decimals: of each whether it is negative, its digits before and after the point, and its groups.
+pub fn compare(
+    na: bool,
+    ia: usize,
+    fa: usize,
+    ga: [u32; 9],
+    nb: bool,
+    ib: usize,
+    fb: usize,
+    gb: [u32; 9],
+) -> Compared
+    ensures { λ r. ⌜ told r ≡ compareTold na ia fa ga nb ib fb gb ⌝ }
+{
+    if !groups::well_formed(ia, fa, ga) {
+        return Compared::Refused(refusal::RECORD);
+    }
+    if !groups::well_formed(ib, fb, gb) {
+        return Compared::Refused(refusal::RECORD);
+    }
+    compare_values(na, ia, &ga, nb, ib, &gb)
 }

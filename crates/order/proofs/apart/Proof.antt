@@ -7,10 +7,10 @@ use mathlib.Core.Path.{_≡_, sym, _∙_}
 use native.Mathlib.Omega.{arith}
 use denote.Ref.{now}
 use lib.ListN.{getD}
-use Rattle.decimal.specs.Course.{placed}
-use Rattle.decimal.proofs.Lex.{less-at, same-places, less, greater}
-use Rattle.decimal.proofs.order.apart.Statement.{statement}
-use Rattle.decimal.proofs.order.apart.Tie as tie
+use Rattle.order.specs.Course.{placed}
+use Rattle.order.proofs.Lex.{less-at, same-places, less, greater}
+use Rattle.order.proofs.apart.Statement.{statement}
+use Rattle.order.proofs.apart.Tie as tie
 
 abbrev Inv-loop : tie.InvT-loop
 Inv-loop a m b n k₀ k = (k ≤ 17) × ((j : ℕ) → j < k → getD (placed m a) j 0 ≡ getD (placed n b) j 0)

@@ -13,9 +13,9 @@ use lib.ListN.{length, getD, replicate, length-append, length-replicate}
 use lib.Seq.{ext-getD}
 use borrow.Author.Tests.{lt-ltb, le-ltb, ltb-true, ltb-false}
 use Rattle.groups.specs.Numbers.{number, Below}
-use Rattle.decimal.specs.Value.{magnitude}
-use Rattle.decimal.specs.Course.{placed, orderN}
-use Rattle.decimal.specs.declared.Compared.the-variants.{Less, Equal, Greater}
+use Rattle.order.specs.Value.{magnitude}
+use Rattle.order.specs.Course.{placed, orderN}
+use Rattle.order.specs.declared.Compared.the-variants.{Less, Equal, Greater}
 
 pub pow-pos-of : (b n : ℕ) → 0 < b → 0 < b ^ n
 pow-pos-of b zero h = rw pow-zero (lit< tt)

@@ -7,9 +7,9 @@ use mathlib.Core.Path.{_≡_, sym, _∙_}
 use native.Mathlib.Omega.{arith}
 use denote.Ref.{now}
 use lib.ListN.{getD}
-use Rattle.decimal.proofs.Lex.{lex, less, greater, same-groups}
-use Rattle.decimal.proofs.order.aligned.Statement.{statement}
-use Rattle.decimal.proofs.order.aligned.Tie as tie
+use Rattle.order.proofs.Lex.{lex, less, greater, same-groups}
+use Rattle.order.proofs.aligned.Statement.{statement}
+use Rattle.order.proofs.aligned.Tie as tie
 
 abbrev Inv-loop : tie.InvT-loop
 Inv-loop a b k₀ k = (k ≤ 9) × ((j : ℕ) → j < k → getD a j 0 ≡ getD b j 0)

@@ -7,8 +7,8 @@ use mathlib.Core.List.{List, _++_}
 use lib.Dec.{ltb}
 use lib.ListN.{length, replicate}
 use Rattle.groups.specs.Numbers.{Below}
-use Rattle.decimal.specs.declared.Compared.{Compared}
-use Rattle.decimal.specs.declared.Compared.the-variants.{Less, Equal, Greater}
+use Rattle.order.specs.declared.Compared.{Compared}
+use Rattle.order.specs.declared.Compared.the-variants.{Less, Equal, Greater}
 
 -- nine groups of nine digits
 abbrev pub NineGroups : List ℕ → Type 0
