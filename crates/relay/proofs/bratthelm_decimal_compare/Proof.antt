@@ -3,24 +3,23 @@
 use denote.Ref.{now}
 use Rattle.lent.proofs.Puts.{same-told}
 use Rattle.relay.proofs.Twelve.{order-told}
-use borrow.Author.Needs.{needs}
 use Rattle.relay.proofs.bratthelm_decimal_compare.Statement.{statement}
 use Rattle.relay.proofs.bratthelm_decimal_compare.Tie as tie
 
 decimal-in-requires : tie.Need-decimal-in-requires
-decimal-in-requires c κs = search needs
+decimal-in-requires c κs = tt
 
 decimal-in-requires-2 : tie.Need-decimal-in-requires-2
-decimal-in-requires-2 c κs = search needs
+decimal-in-requires-2 c κs = tt
 
 compare-requires : tie.Need-compare-requires
-compare-requires c κs = search needs
+compare-requires c κs = tt
 
 put-compared-requires : tie.Need-put-compared-requires
-put-compared-requires c κs = search needs
+put-compared-requires c κs = tt
 
 same-length : tie.Need-same-length
-same-length c = search needs
+same-length c = c .before .before .put-compared .kept .0
 
 returns : tie.Need-returns
 returns c =

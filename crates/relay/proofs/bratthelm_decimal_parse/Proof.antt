@@ -4,18 +4,17 @@ use denote.Ref.{now}
 use Rattle.decimal_laws.proofs.Formed.{parse-formed}
 use Rattle.lent.proofs.Puts.{same-told}
 use Rattle.relay.proofs.Twelve.{answer-told}
-use borrow.Author.Needs.{needs}
 use Rattle.relay.proofs.bratthelm_decimal_parse.Statement.{statement}
 use Rattle.relay.proofs.bratthelm_decimal_parse.Tie as tie
 
 parse-str-bytes-requires : tie.Need-parse-str-bytes-requires
-parse-str-bytes-requires c κs = search needs
+parse-str-bytes-requires c κs = tt
 
 put-answer-requires : tie.Need-put-answer-requires
-put-answer-requires c κs = search needs
+put-answer-requires c κs = tt
 
 same-length : tie.Need-same-length
-same-length c = search needs
+same-length c = c .before .before .put-answer .kept .0
 
 returns : tie.Need-returns
 returns c =

@@ -5,18 +5,17 @@ use Rattle.decimal_laws.proofs.Formed.{read-formed}
 use Rattle.lent.specs.Layout.{flag}
 use Rattle.lent.proofs.Puts.{same-told}
 use Rattle.relay.proofs.Twelve.{answer-told}
-use borrow.Author.Needs.{needs}
 use Rattle.relay.proofs.bratthelm_decimal_read_bin.Statement.{statement}
 use Rattle.relay.proofs.bratthelm_decimal_read_bin.Tie as tie
 
 read-bin-requires : tie.Need-read-bin-requires
-read-bin-requires c κs = search needs
+read-bin-requires c κs = tt
 
 put-answer-requires : tie.Need-put-answer-requires
-put-answer-requires c κs = search needs
+put-answer-requires c κs = tt
 
 same-length : tie.Need-same-length
-same-length c = search needs
+same-length c = c .before .before .put-answer .kept .0
 
 returns : tie.Need-returns
 returns c =

@@ -6,21 +6,20 @@ use Rattle.value.specs.declared.View.{View}
 use Rattle.jsonb.specs.Views.{elemAt}
 use Rattle.rows.specs.Rows.{valueTold}
 use Rattle.lent.proofs.Puts.{same-told}
-use borrow.Author.Needs.{needs}
 use Rattle.relay.proofs.bratthelm_elem_at.Statement.{statement}
 use Rattle.relay.proofs.bratthelm_elem_at.Tie as tie
 
 view-by-requires : tie.Need-view-by-requires
-view-by-requires c κs = search needs
+view-by-requires c κs = tt
 
 elem-at-requires : tie.Need-elem-at-requires
-elem-at-requires c κs = search needs
+elem-at-requires c κs = tt
 
 put-found-requires : tie.Need-put-found-requires
-put-found-requires c κs = search needs
+put-found-requires c κs = tt
 
 same-length : tie.Need-same-length
-same-length c = search needs
+same-length c = c .before .before .put-found .kept .0
 
 returns : tie.Need-returns
 returns c =

@@ -5,21 +5,20 @@ use mathlib.Core.Path.{ap, _∙_}
 use Rattle.jsonb.specs.Views.{countAt}
 use Rattle.rows.specs.Rows.{countTold}
 use Rattle.lent.proofs.Puts.{same-told}
-use borrow.Author.Needs.{needs}
 use Rattle.relay.proofs.bratthelm_element_count.Statement.{statement}
 use Rattle.relay.proofs.bratthelm_element_count.Tie as tie
 
 view-by-requires : tie.Need-view-by-requires
-view-by-requires c κs = search needs
+view-by-requires c κs = tt
 
 element-count-requires : tie.Need-element-count-requires
-element-count-requires c κs = search needs
+element-count-requires c κs = tt
 
 put-count-requires : tie.Need-put-count-requires
-put-count-requires c κs = search needs
+put-count-requires c κs = tt
 
 same-length : tie.Need-same-length
-same-length c = search needs
+same-length c = c .before .before .put-count .kept .0
 
 returns : tie.Need-returns
 returns c =

@@ -6,21 +6,20 @@ use Rattle.value.specs.declared.View.{View}
 use Rattle.jsonb.specs.Views.{keyAt}
 use Rattle.rows.specs.Rows.{keyTold}
 use Rattle.lent.proofs.Puts.{same-told}
-use borrow.Author.Needs.{needs}
 use Rattle.relay.proofs.bratthelm_key_at.Statement.{statement}
 use Rattle.relay.proofs.bratthelm_key_at.Tie as tie
 
 view-by-requires : tie.Need-view-by-requires
-view-by-requires c κs = search needs
+view-by-requires c κs = tt
 
 key-at-requires : tie.Need-key-at-requires
-key-at-requires c κs = search needs
+key-at-requires c κs = tt
 
 put-key-requires : tie.Need-put-key-requires
-put-key-requires c κs = search needs
+put-key-requires c κs = tt
 
 same-length : tie.Need-same-length
-same-length c = search needs
+same-length c = c .before .before .put-key .kept .0
 
 returns : tie.Need-returns
 returns c =

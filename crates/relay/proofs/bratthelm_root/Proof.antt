@@ -4,21 +4,20 @@ use mathlib.Core.Path.{ap, _∙_}
 use Rattle.gate.specs.Said.{readSaid}
 use Rattle.rows.specs.Rows.{valueTold}
 use Rattle.lent.proofs.Puts.{same-told}
-use borrow.Author.Needs.{needs}
 use Rattle.relay.proofs.bratthelm_root.Statement.{statement}
 use Rattle.relay.proofs.bratthelm_root.Tie as tie
 
 deserialize-requires : tie.Need-deserialize-requires
-deserialize-requires c κs = search needs
+deserialize-requires c κs = tt
 
 found-of-requires : tie.Need-found-of-requires
-found-of-requires c κs = search needs
+found-of-requires c κs = tt
 
 put-found-requires : tie.Need-put-found-requires
-put-found-requires c κs = search needs
+put-found-requires c κs = tt
 
 same-length : tie.Need-same-length
-same-length c = search needs
+same-length c = c .before .before .put-found .kept .0
 
 returns : tie.Need-returns
 returns c =

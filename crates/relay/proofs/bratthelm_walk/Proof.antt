@@ -12,10 +12,10 @@ returns : tie.Need-returns
 returns c = (too-short 2 _ (c .if1 .taken), as-it-was 2 _ _ _ (c .if1 .taken) refl)
 
 walk-requires : tie.Need-walk-requires
-walk-requires c κs = search needs
+walk-requires c κs = tt
 
 put-walked-requires : tie.Need-put-walked-requires
-put-walked-requires c κs = search needs
+put-walked-requires c κs = tt
 
 same-length : tie.Need-same-length
 same-length c = search needs
