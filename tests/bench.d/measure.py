@@ -204,7 +204,7 @@ or compiler gives other numbers, and only the ratios, ours divided by Rust's, ar
 - Compiler of the original and of the program: {rustc}
 - {how}
 
-![Bars of the ratios](benchmark.svg)
+![Bars of the ratios]({chart})
 
 """
 
@@ -235,10 +235,11 @@ def main():
     if '--write' in sys.argv[6:]:
         how = ('Nanoseconds are of processor time, the median of 25 rounds, the two sides by turns; instructions are counted by valgrind'
                if measured.native else 'Instructions are counted under qemu-x86_64, whose nanoseconds would say nothing')
-        text = INTRODUCTION.format(date=datetime.date.today(), machine=machine(), rustc=rustc, how=how)
-        with open('docs/BENCHMARK.md', 'w', encoding='utf-8') as file:
+        mark = '' if measured.native else '-arm'
+        text = INTRODUCTION.format(date=datetime.date.today(), machine=machine(), rustc=rustc, how=how, chart=f'benchmark{mark}.svg')
+        with open(f'docs/BENCHMARK{mark}.md', 'w', encoding='utf-8') as file:
             file.write(text + '\n'.join(markdown(*part) for part in parts) + NOTES)
-        with open('docs/benchmark.svg', 'w', encoding='utf-8') as file:
+        with open(f'docs/benchmark{mark}.svg', 'w', encoding='utf-8') as file:
             file.write(chart(measured))
 
 
