@@ -146,5 +146,8 @@ pub fn compare(
     if !groups::well_formed(ib, fb, gb) {
         return Compared::Refused(refusal::RECORD);
     }
-    compare_values(na, ia, &ga, nb, ib, &gb)
+    // Copied after the tests, so that the compiler holds no group while it tests.
+    let a = ga;
+    let b = gb;
+    compare_values(na, ia, &a, nb, ib, &b)
 }

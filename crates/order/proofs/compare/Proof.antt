@@ -12,11 +12,11 @@ use Rattle.order.specs.Value.{told, compareTold}
 use Rattle.order.proofs.compare.Statement.{statement}
 use Rattle.order.proofs.compare.Tie as tie
 
-well-a : (c : tie.Else1) → wellFormed (c .before .before .args .ia) (c .before .before .args .fa) (c .before .before .args .t4) ≡ true
+well-a : (c : tie.Else1) → wellFormed (c .before .before .args .ia) (c .before .before .args .fa) (c .before .before .args .ga) ≡ true
 well-a c = sym (c .before .well-formed .ensures) ∙ not-false (c .before .well-formed .result) (c .if1 .left)
 
 well-b : (c : tie.Else2) →
-    wellFormed (c .before .before .before .before .args .ib) (c .before .before .before .before .args .fb) (c .before .before .before .before .args .t8) ≡ true
+    wellFormed (c .before .before .before .before .args .ib) (c .before .before .before .before .args .fb) (c .before .before .before .before .args .gb) ≡ true
 well-b c = sym (c .before .well-formed2 .ensures) ∙ not-false (c .before .well-formed2 .result) (c .if2 .left)
 
 well-formed-requires : tie.Need-well-formed-requires
