@@ -424,27 +424,3 @@ some-point n f gs h =
     let N = nines gs n (before f) in
     let L = digits 10 (rest f) (getD gs (n + before f) 0 / 10 ^ (9 - rest f)) in
     (simp (ne-eqb f 0 h) (ap (λ (X : List ℕ). 46 ∷ X) (map-append show N L)), simp (ne-eqb f 0 h))
-
--- ---- the groups of a decimal are below the base
-pub well-below : (i f : ℕ) (gs : List ℕ) → length gs ≡ 9 → wellFormed i f gs ≡ true → Below 1000000000 gs
-unfolding wellFormed wellAt
-well-below i f gs e h k = go (ltb k 9) refl
-  where
-    u : ℕ
-    u = unitOf i k (digitsAt i f k)
-
-    g : ℕ
-    g = getD gs k 0
-
-    go : (t : Bool) → ltb k 9 ≡ t → getD gs k 0 < 1000000000
-    go true q =
-        let a = both-true (digitsOk i f) (all 9 (λ j. wellAt i f j (getD gs j 0))) h in
-        let w = all-each (λ j. wellAt i f j (getD gs j 0)) 9 (a .1) k (ltb-true k 9 q) in
-        let b = both-true (eqb (g % u) 0) (ltb (g / u) (10 ^ digitsAt i f k)) w in
-        let z = eqb-true (g % u) 0 (b .0) in
-        let m = stored-lt i k (digitsAt i f k) (g / u) (digits-le i f k) (ltb-true _ _ (b .1)) in
-        let r = div-add-mod' g u in
-        omega arith
-    go false q =
-        let l : length gs ≤ k = rw e (ltb-false k 9 q) in
-        rw (List·getD-eq-default gs 0 l) (lit< tt)

@@ -14,7 +14,8 @@ use Rattle.groups.proofs.Accept.{well-digits}
 use Rattle.groups.proofs.Room.{short, fits}
 use Rattle.printing.specs.Print.{signText, textOf}
 use Rattle.printing.specs.Course.{wholeText, pointText}
-use Rattle.printing.proofs.Pieces.{text-is, whole-count, point-count, three-parts, well-below}
+use Rattle.groups.proofs.Base.{well-below}
+use Rattle.printing.proofs.Pieces.{text-is, whole-count, point-count, three-parts}
 use Rattle.printing.proofs.print_well.Statement.{statement}
 use Rattle.printing.proofs.print_well.Tie as tie
 
