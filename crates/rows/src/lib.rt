@@ -1,5 +1,6 @@
 // Answers about documents as numbers in a lent slice, for programs in other languages. Each function returns a refusal's number, or 0, and stores the
-// answer's numbers at the front; a slice that is too short is refused by 25, and a refusal changes nothing.
+// answer's numbers at the front; a slice that is too short is refused by 25, and a refusal changes nothing, but for a walk's, of which the count
+// and the place are stored.
 mod store;
 mod values;
 

@@ -41,7 +41,7 @@ abbrev pub typedStartBy : List ℕ → View → ℕ → TypeOf → ℕ
 typedStartBy d v body (type-of.Known t) = startBy d v body t
 typedStartBy d v body (type-of.Refused n) = 0
 
--- what the value entry at a place shows: 1 for a document that is too long, 3 where it has no such container or the container no such entry
+-- what the value entry at a place shows: 1 for a document that is too long, 3 where it has no such container, or the entry does not end within it
 unfoldable pub sightAt : List ℕ → Bool → ℕ → ℕ → ℕ → Sight
 sightAt d large start size p =
     placed d (p + 1 + offsetSize (kind false large)) (start + size) refusedSight

@@ -379,7 +379,7 @@ fn walk_object(
     Walked::Done { count: n }
 }
 
-// Lists every path of the document, as far as there is room: a number of eight lent numbers each.
+// Lists every path of the document, as far as there is room: an event of eight lent numbers each.
 pub fn walk(doc: &[u8], out: &mut [u32]) -> Walked
     ensures { λ r. ⌜ Walks (now (doc .entry)) (now (out .entry)) r (now (out .exit)) ⌝ }
 {
