@@ -1,17 +1,14 @@
-// One event of the walk: what it says of a value, and how its numbers are laid into the lent list.
+// One event of the walk: what it says of a value, and for how many of them a lent list has room.
 use codes::JsonbType;
 use layout::Kind;
-use utf8::Utf8Check;
 use value::Scalar;
 use value::Span;
 use value::Value;
 ghost use mathlib.Core.Path.{_≡_};
 ghost use Prim.Native.Nat.{_+_, _*_, _≤_};
 ghost use lib.ListN.{length};
-ghost use Rattle.events.specs.Events.{wide as eventWide, kindCode, codeOf, bytesOf, bytesFrom, scalarPart, partOf, scalarExtra, extraOf, eventOf};
-ghost use Rattle.events.specs.Text.{isValid, isText};
-ghost use Rattle.events.specs.Listing.{end, event};
-ghost use Rattle.events.specs.Lay.{room, put, lay, laid};
+ghost use Rattle.events.specs.Events.{kindCode, codeOf, bytesOf, bytesFrom, scalarPart, partOf, scalarExtra, extraOf, eventOf};
+ghost use Rattle.events.specs.Lay.{room};
 
 // An event: the type code, the depth, the position, the key's bytes, the value's bytes, and a count or a column type.
 pub struct Event {
@@ -170,27 +167,6 @@ pub fn event_of(s: Spot, x: Value) -> Event
     }
 }
 
-fn is_valid(r: Utf8Check) -> bool
-    ensures { λ b. ⌜ b ≡ isValid r ⌝ }
-{
-    match r {
-        Utf8Check::Valid => true,
-        Utf8Check::Bad(_) => false,
-    }
-}
-
-// Whether a part of the document is UTF-8.
-pub fn is_text(doc: &[u8], s: Span) -> bool
-    ensures { λ r. ⌜ r ≡ isText (now (doc .entry)) s ⌝ }
-{
-    let start = s.start as usize;
-    let end = start + s.len as usize;
-    if doc.len() < end {
-        return false;
-    }
-    is_valid(utf8::utf8_check(&doc[start..end]))
-}
-
 // How many events a list has room for.
 pub fn room_in(out: &[u32]) -> usize
     ensures { λ r. ⌜ r ≡ room (now (out .entry)) ⌝ }
@@ -200,36 +176,4 @@ pub fn room_in(out: &[u32]) -> usize
         return 4294967295;
     }
     n
-}
-
-fn put_event(out: &mut [u32], n: usize, e: Event)
-    requires { ⌜ eventWide * n + eventWide ≤ length (now out) ⌝ }
-    ensures { λ _. ⌜ now (out .exit) ≡ put (now (out .entry)) n e ⌝ }
-{
-    let at = 8 * n;
-    let key = e.key;
-    let part = e.part;
-    out[at] = e.code;
-    out[at + 1] = e.depth;
-    out[at + 2] = e.position;
-    out[at + 3] = key.start;
-    out[at + 4] = key.len;
-    out[at + 5] = part.start;
-    out[at + 6] = part.len;
-    out[at + 7] = e.extra;
-}
-
-// Lays down the event of a value: 12 where there is no room.
-pub fn put_value(out: &mut [u32], n: usize, s: Spot, x: Value) -> Walked
-    ensures { λ r. ⌜ lay (event (eventOf s x) (s .place) end) (now (out .entry)) n ≡ laid r (now (out .exit)) ⌝ }
-{
-    if room_in(out) <= n {
-        return Walked::Stopped {
-            number: refusal::EVENTS,
-            place: s.place,
-            count: n,
-        };
-    }
-    put_event(out, n, event_of(s, x));
-    Walked::Done { count: n + 1 }
 }

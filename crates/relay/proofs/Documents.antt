@@ -21,7 +21,7 @@ use Rattle.walk_laws.proofs.Small.{done-small, stopped-small, stopped-near}
 use Rattle.value.specs.declared.View.{View}
 use Rattle.lent.specs.Layout.{low}
 use Rattle.lent.proofs.Puts.{low-small}
-use Rattle.rows.specs.Rows.{walkedTold}
+use Rattle.small_rows.specs.SmallRows.{walkedTold}
 use Rattle.relay.specs.Documents.{kindBy, nowhere, viewBy, endTold, walkTold, walkLeaves}
 
 -- ---- a view by its numbers

@@ -1,12 +1,17 @@
 // The root of a document as the first event of a list.
 use content::Read;
+use events::Event;
 use events::Spot;
 use events::Walked;
 use value::Scalar;
 use value::Span;
 use value::Value;
 ghost use mathlib.Core.Path.{_≡_};
-ghost use Rattle.events.specs.Lay.{lay, laid};
+ghost use Prim.Native.Nat.{_+_, _*_, _≤_};
+ghost use lib.ListN.{length};
+ghost use Rattle.events.specs.Events.{wide as eventWide, eventOf};
+ghost use Rattle.events.specs.Listing.{end, event};
+ghost use Rattle.events.specs.Lay.{put, lay, laid};
 ghost use Rattle.root_event.specs.Root.{stringIn, stringOf, firstByte, spotOf, valueNode, readNode, rootNode};
 
 // The string of a scalar; of another, no bytes.
@@ -41,18 +46,50 @@ fn first_byte(doc: &[u8]) -> u32
     1
 }
 
+fn put_event(out: &mut [u32], n: usize, e: Event)
+    requires { ⌜ eventWide * n + eventWide ≤ length (now out) ⌝ }
+    ensures { λ _. ⌜ now (out .exit) ≡ put (now (out .entry)) n e ⌝ }
+{
+    let at = 8 * n;
+    let key = e.key;
+    let part = e.part;
+    out[at] = e.code;
+    out[at + 1] = e.depth;
+    out[at + 2] = e.position;
+    out[at + 3] = key.start;
+    out[at + 4] = key.len;
+    out[at + 5] = part.start;
+    out[at + 6] = part.len;
+    out[at + 7] = e.extra;
+}
+
+// Lays down the event of a value: 12 where there is no room.
+fn put_value(out: &mut [u32], n: usize, s: Spot, x: Value) -> Walked
+    ensures { λ r. ⌜ lay (event (eventOf s x) (s .place) end) (now (out .entry)) n ≡ laid r (now (out .exit)) ⌝ }
+{
+    if events::room_in(out) <= n {
+        return Walked::Stopped {
+            number: refusal::EVENTS,
+            place: s.place,
+            count: n,
+        };
+    }
+    put_event(out, n, events::event_of(s, x));
+    Walked::Done { count: n + 1 }
+}
+
 // Lists the root's value: 9 for a string that is no text, then 12 where there is no room.
 fn list_value(doc: &[u8], out: &mut [u32], x: Value) -> Walked
     ensures { λ w. ⌜ lay (valueNode (now (doc .entry)) x) (now (out .entry)) 0 ≡ laid w (now (out .exit)) ⌝ }
 {
-    if !events::is_text(doc, string_of(x)) {
+    if !texts::is_text(doc, string_of(x)) {
         return Walked::Stopped {
             number: refusal::UTF8,
             place: 0,
             count: 0,
         };
     }
-    events::put_value(
+    put_value(
         out,
         0,
         Spot {

@@ -1,4 +1,4 @@
--- Answers about documents as numbers. A value is five: its kind (0 nothing, 1 null, 2 a truth value, 3 signed, 4 unsigned, 5 a double, 6 a string, 7 opaque,
+-- Values of documents as numbers. A value is five: its kind (0 nothing, 1 null, 2 a truth value, 3 signed, 4 unsigned, 5 a double, 6 a string, 7 opaque,
 -- 8 a container), its type code, and three more: for a truth value 1 or 0; for a number its 64 bits, the lower half and the upper; for a string start and
 -- length; for an opaque value start, length and column type; for a container start, size and count. What is not used is 0.
 -- Assumes nothing.
@@ -8,7 +8,7 @@ use mathlib.Core.List.{List, [], _∷_}
 use lib.Ieee.{binary64, toBits}
 use mir.Syntax.{w64}
 use mir.Val.{ofZ}
-use Rattle.refusal.specs.Told.{Told, answer, refusal}
+use Rattle.refusal.specs.Told.{Told}
 use Rattle.lent.specs.Layout.{low}
 use Rattle.value.specs.declared.Span.{Span}
 use Rattle.value.specs.declared.Number.{Number}
@@ -17,10 +17,9 @@ use Rattle.value.specs.declared.Scalar.{Scalar}
 use Rattle.value.specs.declared.Scalar.the-variants as scalar
 use Rattle.value.specs.declared.Value.{Value}
 use Rattle.value.specs.declared.Value.the-variants as value
-use Rattle.gate.specs.Said.{Said, says, nothing, refuses}
+use Rattle.gate.specs.Said.{Said}
 use Rattle.events.specs.Events.{span, codeOf, extraOf}
-use Rattle.events.specs.declared.Walked.{Walked}
-use Rattle.events.specs.declared.Walked.the-variants.{Done, Stopped}
+use Rattle.small_rows.specs.SmallRows.{toldBy}
 
 -- ---- values
 abbrev pub numberKind : Number → ℕ
@@ -66,26 +65,6 @@ holds (value.Container v) = span (v .start) (v .size)
 abbrev pub valueNumbers : Value → List ℕ
 valueNumbers x = kindOf x ∷ codeOf x ∷ holds x .start ∷ holds x .len ∷ extraOf x ∷ []
 
--- ---- what is said, as numbers: of a thing, of nothing, or a refusal's number alone
-abbrev pub toldBy : {A : Type 0} → (A → List ℕ) → List ℕ → Said A → Told
-toldBy f none (says x) = answer (f x)
-toldBy f none nothing = answer none
-toldBy f none (refuses n) = refusal n
-
+-- ---- what is said, as numbers
 abbrev pub valueTold : Said Value → Told
 valueTold x = toldBy valueNumbers (0 ∷ 0 ∷ 0 ∷ 0 ∷ 0 ∷ []) x
-
--- a key: 1, its start and its length; 0 0 0 for nothing
-abbrev pub keyNumbers : Span → List ℕ
-keyNumbers s = 1 ∷ s .start ∷ s .len ∷ []
-
-abbrev pub keyTold : Said Span → Told
-keyTold x = toldBy keyNumbers (0 ∷ 0 ∷ 0 ∷ []) x
-
-abbrev pub countTold : Said ℕ → Told
-countTold x = toldBy (λ n. n ∷ []) (0 ∷ []) x
-
--- how a walk ended: the count of events and the place of the fault, which is 0 where there is none; so it is told of a refusal too
-abbrev pub walkedTold : Walked → Told
-walkedTold (Done n) = answer (low n ∷ 0 ∷ [])
-walkedTold (Stopped f p n) = record { number = f; values = low n ∷ low p ∷ [] }

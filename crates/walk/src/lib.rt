@@ -124,7 +124,7 @@ fn is_key(doc: &[u8], out: &[u32], n: usize, key: Span) -> bool
             return true;
         }
     }
-    events::is_text(doc, key)
+    texts::is_text(doc, key)
 }
 
 // Whether what is seen is no string that is not UTF-8; that of the last event was tested.
@@ -144,7 +144,7 @@ fn is_seen_text(doc: &[u8], out: &[u32], n: usize, x: Sight) -> bool
             }
         }
     }
-    events::is_text(doc, part)
+    texts::is_text(doc, part)
 }
 
 // Lists what is seen of the entry at a place, without its path: 0, or a refusal's number.

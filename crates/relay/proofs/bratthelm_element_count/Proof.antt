@@ -3,7 +3,7 @@
 use denote.Ref.{now}
 use mathlib.Core.Path.{ap, _∙_}
 use Rattle.jsonb.specs.Views.{countAt}
-use Rattle.rows.specs.Rows.{countTold}
+use Rattle.small_rows.specs.SmallRows.{countTold}
 use Rattle.lent.proofs.Puts.{same-told}
 use Rattle.relay.proofs.bratthelm_element_count.Statement.{statement}
 use Rattle.relay.proofs.bratthelm_element_count.Tie as tie

@@ -4,7 +4,7 @@ use denote.Ref.{now}
 use mathlib.Core.Path.{ap, _∙_}
 use Rattle.value.specs.declared.View.{View}
 use Rattle.jsonb.specs.Views.{keyAt}
-use Rattle.rows.specs.Rows.{keyTold}
+use Rattle.small_rows.specs.SmallRows.{keyTold}
 use Rattle.lent.proofs.Puts.{same-told}
 use Rattle.relay.proofs.bratthelm_key_at.Statement.{statement}
 use Rattle.relay.proofs.bratthelm_key_at.Tie as tie

@@ -7,8 +7,8 @@ use Rattle.root_event.proofs.list_value.Statement.{statement}
 use Rattle.root_event.proofs.list_value.Tie as tie
 use Rattle.root_event.proofs.list_value.Reads as reads
 use Rattle.root_event.proofs.list_value.Lts as lts
-use Rattle.events.proofs.is_text.Reads as is-text-reads
-use Rattle.events.proofs.put_value.Reads as put-value-reads
+use Rattle.texts.proofs.is_text.Reads as is-text-reads
+use Rattle.root_event.proofs.put_value.Reads as put-value-reads
 use Rattle.root_event.proofs.first_byte.Reads as first-byte-reads
 use Rattle.root_event.proofs.string_of.Reads as string-of-reads
 

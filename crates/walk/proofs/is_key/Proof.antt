@@ -11,7 +11,7 @@ use Rattle.walk.proofs.is_key.Statement.{statement}
 use Rattle.walk.proofs.is_key.Tie as tie
 use Rattle.walk.proofs.is_key.Reads as reads
 use Rattle.walk.proofs.is_key.Lts as lts
-use Rattle.events.proofs.is_text.Reads as is-text-reads
+use Rattle.texts.proofs.is_text.Reads as is-text-reads
 
 mul-at : tie.Need-mul-at
 mul-at c = search needs

@@ -11,7 +11,7 @@ use Rattle.walk.proofs.is_seen_text.Statement.{statement}
 use Rattle.walk.proofs.is_seen_text.Tie as tie
 use Rattle.walk.proofs.is_seen_text.Reads as reads
 use Rattle.walk.proofs.is_seen_text.Lts as lts
-use Rattle.events.proofs.is_text.Reads as is-text-reads
+use Rattle.texts.proofs.is_text.Reads as is-text-reads
 
 returns : tie.Need-returns
 returns c = seen-other (now (c .before .before .before .before .args .doc)) (c .before .before .before .before .args .x) (c .if1 .taken)

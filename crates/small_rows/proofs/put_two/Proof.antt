@@ -4,8 +4,8 @@ use denote.Ref.{now}
 use mathlib.Core.List.{[], _∷_}
 use Rattle.lent.proofs.Puts.{front}
 use borrow.Author.Needs.{needs}
-use Rattle.rows.proofs.store.put_two.Statement.{statement}
-use Rattle.rows.proofs.store.put_two.Tie as tie
+use Rattle.small_rows.proofs.put_two.Statement.{statement}
+use Rattle.small_rows.proofs.put_two.Tie as tie
 
 slice-write-answer : tie.Need-slice-write-answer
 slice-write-answer c = search needs

@@ -1,11 +1,11 @@
 -- The slice's room is tested first. How the walk ended is told by two numbers, and those are put.
 -- Assumes nothing.
 use mathlib.Core.Path.{refl, sym, ap}
-use Rattle.rows.specs.Rows.{walkedTold}
+use Rattle.small_rows.specs.SmallRows.{walkedTold}
 use Rattle.lent.proofs.Puts.{too-short, stores}
 use borrow.Author.Needs.{needs}
-use Rattle.rows.proofs.put_walked.Statement.{statement}
-use Rattle.rows.proofs.put_walked.Tie as tie
+use Rattle.small_rows.proofs.put_walked.Statement.{statement}
+use Rattle.small_rows.proofs.put_walked.Tie as tie
 
 returns : tie.Need-returns
 returns c = too-short 2 _ (c .if1 .taken)

@@ -3,11 +3,11 @@
 use mathlib.Core.Path.{refl, sym, ap}
 use Rattle.gate.specs.Said.{keySaid}
 use Rattle.gate.specs.declared.Key.{Key}
-use Rattle.rows.specs.Rows.{keyTold}
+use Rattle.small_rows.specs.SmallRows.{keyTold}
 use Rattle.lent.proofs.Puts.{too-short, stores, stores-none}
 use borrow.Author.Needs.{needs}
-use Rattle.rows.proofs.put_key.Statement.{statement}
-use Rattle.rows.proofs.put_key.Tie as tie
+use Rattle.small_rows.proofs.put_key.Statement.{statement}
+use Rattle.small_rows.proofs.put_key.Tie as tie
 
 returns : tie.Need-returns
 returns c = too-short 3 _ (c .if1 .taken)

@@ -5,11 +5,11 @@ use denote.Ref.{now}
 use mathlib.Core.List.{[], _∷_}
 use Rattle.jsonb.specs.Views.{countSaid}
 use Rattle.jsonb.specs.declared.Count.{Count}
-use Rattle.rows.specs.Rows.{countTold}
+use Rattle.small_rows.specs.SmallRows.{countTold}
 use Rattle.lent.proofs.Puts.{front, too-short, stores, stores-none}
 use borrow.Author.Needs.{needs}
-use Rattle.rows.proofs.put_count.Statement.{statement}
-use Rattle.rows.proofs.put_count.Tie as tie
+use Rattle.small_rows.proofs.put_count.Statement.{statement}
+use Rattle.small_rows.proofs.put_count.Tie as tie
 
 returns : tie.Need-returns
 returns c = too-short 1 _ (c .if1 .taken)

@@ -2,10 +2,10 @@
 -- Assumes nothing.
 use denote.Ref.{now}
 use native.Mathlib.Omega.{arith}
 use Rattle.events.proofs.Cases.{no-room, put-down, room-for}
 use borrow.Author.Needs.{needs}
-use Rattle.events.proofs.put_value.Statement.{statement}
-use Rattle.events.proofs.put_value.Tie as tie
+use Rattle.root_event.proofs.put_value.Statement.{statement}
+use Rattle.root_event.proofs.put_value.Tie as tie
 
 room-in-requires : tie.Need-room-in-requires
 room-in-requires c κs = search needs

@@ -6,8 +6,8 @@ use native.Mathlib.Omega.{arith}
 use lib.ListN.{length-set}
 use Rattle.lent.proofs.Puts.{front}
 use borrow.Author.Needs.{needs}
-use Rattle.rows.proofs.store.put_three.Statement.{statement}
-use Rattle.rows.proofs.store.put_three.Tie as tie
+use Rattle.small_rows.proofs.put_three.Statement.{statement}
+use Rattle.small_rows.proofs.put_three.Tie as tie
 
 slice-write-answer : tie.Need-slice-write-answer
 slice-write-answer c = search needs

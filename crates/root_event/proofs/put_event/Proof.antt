@@ -5,11 +5,11 @@ use mathlib.Core.List.{[], _∷_}
 use Prim.Native.Nat.{_*_}
 use native.Mathlib.Omega.{arith}
 use lib.ListN.{length-set}
 use Rattle.events.specs.Lay.{put}
 use Rattle.events.proofs.Cases.{run-of-stores}
 use borrow.Author.Needs.{needs}
-use Rattle.events.proofs.put_event.Statement.{statement}
-use Rattle.events.proofs.put_event.Tie as tie
+use Rattle.root_event.proofs.put_event.Statement.{statement}
+use Rattle.root_event.proofs.put_event.Tie as tie
 
 mul-at : tie.Need-mul-at
 mul-at c = search needs

@@ -1,9 +1,9 @@
 -- The test is the definition's, and the part that is handed over holds as many bytes as there are from its start to its end.
 -- Assumes nothing.
 use Rattle.events.proofs.Cases.{past-the-end, text-is}
 use borrow.Author.Needs.{needs}
-use Rattle.events.proofs.is_text.Statement.{statement}
-use Rattle.events.proofs.is_text.Tie as tie
+use Rattle.texts.proofs.is_text.Statement.{statement}
+use Rattle.texts.proofs.is_text.Tie as tie
 
 cast-start : tie.Need-cast-start
 cast-start c = search needs
