@@ -1,4 +1,4 @@
--- A decimal's text, read and printed. The text itself is that of the crates numeral and printing; here its digits become groups, and groups digits.
+-- A decimal's text, read and printed. The text and its digits are those of the crates numeral and printing; here a decimal is made of them, and them of a decimal.
 -- Assumes nothing.
 use Prim.Native.Nat.{ℕ}
 use mathlib.Core.Bool.{Bool, cond}
@@ -8,10 +8,9 @@ use Rattle.refusal.specs.Told.{Told, refusal}
 use Rattle.groups.specs.Numbers.{tab}
 use Rattle.groups.specs.Read.{storedAt}
 use Rattle.groups.specs.Write.{digitsTo, roomTold, roomLeaves}
-use Rattle.groups.specs.declared.Form.the-variants.{Digits}
-use Rattle.numeral.specs.Read.{readText}
+use Rattle.groups.specs.Layout.{Digits}
+use Rattle.numeral.specs.Read.{Numeral, readText}
 use Rattle.printing.specs.Print.{textOf}
-use Rattle.numeral.specs.declared.Numeral.{Numeral}
 use Rattle.decimal.specs.Read.{refused, accepted}
 use Rattle.decimal.specs.Write.{isWell}
 use Rattle.order.specs.Value.{belowZero}

@@ -39,7 +39,7 @@ impl Decimal {
         ensures { λ r. ⌜ countTold r ≡ binSize self ⌝ }
     {
         let gs = self.groups;
-        if !groups::well_formed(self.intg, self.frac, gs) {
+        if !groups::well_formed(self.intg, self.frac, &gs) {
             return Counted::Refused(refusal::RECORD);
         }
         groups::size(self.intg + self.frac, self.frac)
@@ -50,7 +50,7 @@ impl Decimal {
         ensures { λ r. ⌜ r ≡ readBin (now (bytes .entry)) precision scale keep ⌝ }
     {
         let negative = reader::is_negative(bytes);
-        let g = groups::read(bytes, reader::form_of(negative), precision, scale);
+        let g = reading::read(bytes, negative, precision, scale);
         if g.refusal != 0 {
             return reader::refuse(g.refusal);
         }
@@ -79,7 +79,7 @@ impl Decimal {
         ensures { λ _. ⌜ now (out .exit) ≡ binLeaves self (now (out .entry)) ⌝ }
     {
         let gs = self.groups;
-        groups::write(out, self.sign, self.intg, self.frac, gs)
+        writing::write(out, self.sign, self.intg, self.frac, gs)
     }
 
     // The decimal that the text writes.
@@ -90,10 +90,10 @@ impl Decimal {
         if t.refusal != 0 {
             return reader::refuse(t.refusal);
         }
-        let digits = t.digits;
+        let gs = t.groups;
         Answer {
             refusal: 0,
-            decimal: reader::of_digits(t.negative, t.intg, t.frac, digits),
+            decimal: reader::of_groups(t.negative, t.intg, t.frac, gs),
         }
     }
 

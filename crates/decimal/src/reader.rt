@@ -1,13 +1,11 @@
 // From groups to a decimal.
 use super::Answer;
 use super::Decimal;
-use groups::Form;
 ghost use mathlib.Core.Path.{_≡_};
-ghost use Prim.Native.Nat.{_+_, _<_, _≤_};
+ghost use Prim.Native.Nat.{_+_, _≤_};
 ghost use lib.ListN.{length, getD};
-ghost use Rattle.groups.specs.Numbers.{tab, leadingIn, Below};
-ghost use Rattle.groups.specs.Layout.{formOf};
-ghost use Rattle.decimal.specs.Text.{ofDigits};
+ghost use Rattle.groups.specs.Numbers.{tab, leadingIn};
+ghost use Rattle.order.specs.Value.{belowZero};
 ghost use Rattle.decimal.specs.Read.{negative as isNegative, decimalOf, finished, refused};
 
 pub(crate) fn wide(b: u8) -> usize
@@ -23,16 +21,6 @@ pub(crate) fn is_negative(bytes: &[u8]) -> bool
         return false;
     }
     bytes[0] < 128
-}
-
-pub(crate) fn form_of(negative: bool) -> Form
-    ensures { λ r. ⌜ r ≡ formOf negative ⌝ }
-{
-    if negative {
-        Form::Inverted
-    } else {
-        Form::Plain
-    }
 }
 
 pub(crate) fn refuse(n: u8) -> Answer
@@ -125,18 +113,14 @@ pub(crate) fn finish(
     decimal_of(9 * (n - z), frac, negative, shifted(&groups, z))
 }
 
-// The decimal with these digits, whatever follows them.
-pub(crate) fn of_digits(negative: bool, intg: usize, frac: usize, digits: [u8; 65]) -> Decimal
-    requires { ⌜ (frac ≤ 30) × (intg + frac ≤ 65) ⌝ }
-    requires { ⌜ Below 10 digits ⌝ }
-    ensures { λ r. ⌜ r ≡ ofDigits negative intg frac digits ⌝ }
+// The decimal with the groups of a text; a zero is positive.
+pub(crate) fn of_groups(negative: bool, intg: usize, frac: usize, groups: [u32; 9]) -> Decimal
+    ensures { λ r. ⌜ r ≡ record { intg = intg; frac = frac; sign = belowZero negative groups; groups = groups } ⌝ }
 {
-    let g = groups::read(&digits, Form::Digits, intg + frac, frac);
-    let gs = g.groups;
     Decimal {
         intg,
         frac,
-        sign: order::below_zero(negative, gs),
-        groups: gs,
+        sign: order::below_zero(negative, groups),
+        groups,
     }
 }

@@ -2,28 +2,25 @@
 -- Assumes nothing.
 use mathlib.Core.Path.{_≡_, refl, sym, ap, _∙_}
 use mathlib.Core.Bool.{Bool, true, false, cond}
-use mathlib.Core.List.{List, [], _∷_, _++_, map}
+use mathlib.Core.List.{List, [], _∷_, _++_}
 use Prim.Native.Nat.{ℕ, suc, _+_, _-_, _*_, _≤_, _<_}
 use native.Mathlib.Nat.{zero-mod, zero-div, pos-of-ne-zero}
 use native.Mathlib.Omega.{arith}
 use lib.Dec.{ltb, eqb, lit<}
-use lib.ListN.{length, getD, drop, replicate, length-append, length-map, List·getD-eq-default}
+use lib.ListN.{length, getD, drop, length-append, length-map, List·getD-eq-default}
 use borrow.Author.Tests.{ltb-true, ltb-false, lt-ltb, le-ltb, leb-true, eqb-true, eqb-false}
 use Rattle.groups.specs.Numbers.{tab, leadingIn, Below}
-use Rattle.groups.specs.Layout.{groupsOf, side, formOf, baseOf, digitsAt, sizeIn}
+use Rattle.groups.specs.Layout.{groupsOf, side, formOf, baseOf, digitsAt, sizeIn, Form, Digits}
 use Rattle.groups.specs.Packed.{digitsIn}
 use Rattle.groups.specs.Read.{unitOf, rangeAt, storedAt, readGroups}
 use Rattle.groups.specs.Write.{digitsOk, wellAt, wellFormed}
-use Rattle.groups.specs.declared.Form.{Form}
-use Rattle.groups.specs.declared.Form.the-variants.{Digits}
 use Rattle.groups.proofs.Accept.{both-true, in-range}
 use Rattle.groups.proofs.Marks.{length-in}
 use Rattle.groups.proofs.Opened.{opened, reads, digits-range}
 use Rattle.groups.proofs.Sizes.{digits-size}
 use Rattle.groups.proofs.Tab.{tab-at, length-tab, all-each}
 use Rattle.numeral.specs.Read.{strip, minus, unsigned, run, pointed, wholePart, fractionPart, isText, fewDigits}
-use Rattle.numeral.specs.Read.{digitOf, digitsIn as textDigits, noNumeral, numeralOf, readUnsigned, readText}
-use Rattle.numeral.specs.declared.Numeral.{Numeral}
+use Rattle.numeral.specs.Read.{Numeral, digitOf, digitsIn as textDigits, noNumeral, numeralOf, readUnsigned, readText}
 use Rattle.numeral.proofs.Limits.{read-within}
 use Rattle.decimal.specs.Read.{negative, nought, decimalOf, without, finished, fromGroups, readBin, readPacked}
 use Rattle.decimal.specs.Write.{isWell}
@@ -185,7 +182,7 @@ packed-formed [] keep h = nought-formed
 packed-formed (p ∷ []) keep h = nought-formed
 packed-formed (p ∷ s ∷ bs) keep h = read-formed bs p s keep (λ k. h (suc (suc k)))
 
--- ---- a numeral that was read has a digit, and in its array as many as it counts
+-- ---- a numeral that was read has a digit, and as many as it counts
 abbrev pub Counts : Numeral → Type 0
 Counts t = (1 ≤ t .intg + t .frac) × (t .intg + t .frac ≤ length (t .digits))
 
@@ -193,7 +190,6 @@ of-text : (neg : Bool) (xs : List ℕ) → isText xs ≡ true → Counts (numera
 unfolding isText textDigits
 of-text neg xs e =
     let n = length-map (wholePart xs ++ fractionPart xs) digitOf ∙ length-append (wholePart xs) (fractionPart xs) in
-    let m = length-append (map digitOf (wholePart xs ++ fractionPart xs)) (replicate (65 - length (map digitOf (wholePart xs ++ fractionPart xs))) 0) in
     (leb-true 1 _ (both-true (pointed (drop (run xs) xs)) _ e .1), omega arith)
 
 unsigned-counts : (neg : Bool) (xs : List ℕ) → readUnsigned neg xs .refusal ≡ 0 → Counts (readUnsigned neg xs)

@@ -13,11 +13,9 @@ use lib.ListN.{length, getD, drop, replicate, length-append, length-drop, length
 use lib.Seq.{getD-drop}
 use borrow.Author.Tests.{le-ltb, eqb-true}
 use Rattle.groups.specs.Numbers.{number, tab, leadingIn}
-use Rattle.groups.specs.Layout.{width, groupsOf, side, formOf, wideOf, digitsAt}
+use Rattle.groups.specs.Layout.{width, groupsOf, side, formOf, wideOf, digitsAt, Form, Plain, Inverted, Digits}
 use Rattle.groups.specs.Packed.{digitsIn}
 use Rattle.groups.specs.Read.{groupAt, storedAt, readGroups}
-use Rattle.groups.specs.declared.Form.{Form}
-use Rattle.groups.specs.declared.Form.the-variants.{Plain, Inverted, Digits}
 use Rattle.groups.proofs.Accept.{in-range}
 use Rattle.groups.proofs.Tab.{tab-at, length-tab, filled}
 use Rattle.groups.proofs.Opened.{opened, reads}

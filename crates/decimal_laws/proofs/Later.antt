@@ -11,10 +11,9 @@ use lib.Dec.{leb, ltb}
 use lib.ListN.{length, length-append}
 use borrow.Author.Tests.{le-leb}
 use Rattle.groups.specs.Numbers.{number, tab, all, leadingIn}
-use Rattle.groups.specs.Layout.{width, groupsOf, side, formOf, digitsAt, offset, sizeIn, size}
+use Rattle.groups.specs.Layout.{width, groupsOf, side, formOf, digitsAt, offset, sizeIn, size, Form}
 use Rattle.groups.specs.Packed.{flipFirst, invert, digitsIn}
 use Rattle.groups.specs.Read.{inRange, groupAt, rangeAt, storedAt, unitOf, groupsIn, readGroups}
-use Rattle.groups.specs.declared.Form.{Form}
 use Rattle.groups.proofs.Accept.{in-range}
 use Rattle.groups.proofs.Marks.{length-in}
 use Rattle.groups.proofs.Sizes.{packed-size, size-pos}

@@ -7,9 +7,8 @@ use Prim.Native.Nat.{ℕ, _+_, _-_, _*_, _^_, _≤_}
 use lib.ListN.{length, take, drop, take-append-drop}
 use lib.Seq.{length-take-le}
 use Rattle.groups.specs.Numbers.{number, tab}
-use Rattle.groups.specs.Layout.{groupsOf}
+use Rattle.groups.specs.Layout.{groupsOf, Digits}
 use Rattle.groups.specs.Read.{storedAt}
-use Rattle.groups.specs.declared.Form.the-variants.{Digits}
 use Rattle.numeral.specs.Read.{readText}
 use Rattle.numeral.proofs.Limits.{read-within}
 use Rattle.decimal.specs.Write.{isWell}

@@ -12,11 +12,9 @@ use lib.ListN.{length, getD, take, drop, length-drop, List·getD-append}
 use lib.Seq.{take-append-le, drop-append-le, take-all, drop-at, getD-take}
 use borrow.Author.Tests.{ltb-true, ltb-false, eqb-true, lt-ltb}
 use Rattle.groups.specs.Numbers.{number, digits, all}
-use Rattle.groups.specs.Layout.{width, groupsOf, side, formOf, baseOf, wideOf, digitsAt, offset, sizeIn}
+use Rattle.groups.specs.Layout.{width, groupsOf, side, formOf, baseOf, wideOf, digitsAt, offset, sizeIn, Form, Plain, Inverted, Digits}
 use Rattle.groups.specs.Read.{groupAt, rangeAt, storedAt, unitOf}
 use Rattle.groups.specs.Write.{groupDigits, digitsTo, wellAt, wellFormed, digitsOk}
-use Rattle.groups.specs.declared.Form.{Form}
-use Rattle.groups.specs.declared.Form.the-variants.{Plain, Inverted, Digits}
 use Rattle.groups.proofs.Accept.{both-true}
 use Rattle.groups.proofs.Finite.{at}
 use Rattle.groups.proofs.Tab.{all-each}

@@ -12,17 +12,15 @@ use lib.ListN.{length, take, drop, length-append, length-drop, take-append-drop}
 use lib.Seq.{take-all, length-take-le}
 use borrow.Author.Tests.{eq-eqb, ne-eqb, eqb-true, not-true}
 use Rattle.groups.specs.Numbers.{number, tab, Below}
-use Rattle.groups.specs.Layout.{sizeIn}
+use Rattle.groups.specs.Layout.{sizeIn, Digits}
 use Rattle.groups.specs.Read.{storedAt}
-use Rattle.groups.specs.declared.Form.the-variants.{Digits}
 use Rattle.groups.proofs.Accept.{well-digits}
 use Rattle.groups.proofs.Tab.{tab-at, length-tab, filled}
 use Rattle.groups.proofs.Opened.{below-drop}
 use Rattle.groups.proofs.Sizes.{digits-size}
 use Rattle.groups.proofs.Store.{length-to, to-below}
-use Rattle.numeral.specs.Read.{padded, readText}
+use Rattle.numeral.specs.Read.{Numeral, readText}
 use Rattle.printing.specs.Print.{show, signText, wholeDigits, fractionText}
-use Rattle.numeral.specs.declared.Numeral.{Numeral}
 use Rattle.decimal.specs.Read.{accepted}
 use Rattle.decimal.specs.Write.{isWell}
 use Rattle.order.specs.Value.{magnitude, signed, isNought, belowZero}
@@ -55,10 +53,6 @@ tab-front i f ds rest hf h e =
     let l : sizeIn Digits i f ≤ length ds = rw (digits-size i f hf h) (le-of-eq (sym e)) in
     filled 9 (storedAt Digits i f ds) (tab 9 (storedAt Digits i f (ds ++ rest))) (length-tab 9 _)
     (λ k m. tab-at 9 (storedAt Digits i f (ds ++ rest)) k m ∙ stored-front Digits i f ds rest l k m)
-
-digits-front : (neg : Bool) (i f : ℕ) (ds rest : List ℕ) → f ≤ 30 → i + f ≤ 65 → length ds ≡ i + f → ofDigits neg i f (ds ++ rest) ≡ ofDigits neg i f ds
-unfolding ofDigits
-digits-front neg i f ds rest hf h e = rw (tab-front i f ds rest hf h e)
 
 -- ---- the sign: a zero loses it, and has the same value without it
 sign-value : (neg : Bool) (n : ℕ) (gs : List ℕ) → signed (belowZero neg gs) (magnitude n gs) ≡ signed neg (magnitude n gs)
@@ -132,7 +126,7 @@ module _ (d : Decimal) (w : isWell d ≡ true) where
   back-number = trimmed-number back-trims (fractionOf d) ∙ whole-number (d .intg) (digitsOf d) whole-fits
 
   read-back : readText (printed d)
-      ≡ record { refusal = 0; negative = d .sign; intg = length (backOf d); frac = d .frac; digits = padded (backOf d ++ fractionOf d) }
+      ≡ record { refusal = 0; negative = d .sign; intg = length (backOf d); frac = d .frac; digits = backOf d ++ fractionOf d }
   read-back =
       let b = trimmed-below back-trims (whole-below (d .intg) (digitsOf d) whole-fits digits-below) in
       let c = below-drop 10 (d .intg) (digitsOf d) digits-below in
@@ -143,7 +137,6 @@ module _ (d : Decimal) (w : isWell d ≡ true) where
   parsed =
       text-read (printed d) (ap (λ (t : Numeral). t .refusal) read-back)
       ∙ ap (λ (t : Numeral). accepted (ofNumeral t)) read-back
-      ∙ ap accepted (digits-front (d .sign) (length (backOf d)) (d .frac) (backOf d ++ fractionOf d) _ (limits .1 .1) back-fits back-count)
 
   back-value : length (d .groups) ≡ 9 → value (ofDigits (d .sign) (length (backOf d)) (d .frac) (backOf d ++ fractionOf d)) ≡ value d
   unfolding value ofDigits

@@ -13,7 +13,7 @@ use borrow.Author.Tests.{le-leb, eq-eqb, ne-eqb, eqb-true, eqb-false}
 use Rattle.groups.specs.Numbers.{both, Below}
 use Rattle.groups.proofs.Accept.{both-true}
 use Rattle.numeral.specs.Read.{strip, minus, unsigned, isDigit, run, pointed, wholePart, fractionPart, isText, fewDigits}
-use Rattle.numeral.specs.Read.{digitOf, digitsIn, padded, readUnsigned, readText}
+use Rattle.numeral.specs.Read.{digitOf, digitsIn, readUnsigned, readText}
 use Rattle.printing.specs.Print.{show, signText}
 use Rattle.decimal_laws.proofs.Trimmed.{Trimmed, trimmed-length, trim-none, bare, bare-trims}
 
@@ -141,7 +141,7 @@ module _ (xs ys : List ℕ) (hx : Below 10 xs) (hy : Below 10 ys) where
 
   read-unsigned : (neg : Bool) → 1 ≤ length xs → length xs + length ys ≤ 65 → length ys ≤ 30
       → readUnsigned neg (map show xs ++ tailOf ys)
-      ≡ record { refusal = 0; negative = neg; intg = length xs; frac = length ys; digits = padded (xs ++ ys) }
+      ≡ record { refusal = 0; negative = neg; intg = length xs; frac = length ys; digits = xs ++ ys }
   unfolding readUnsigned fewDigits
   read-unsigned neg h l m =
       simp (is-text h, whole-text, fraction-text, length-map xs show, length-map ys show, le-leb _ _ l, le-leb _ _ m, digits-text)
@@ -150,7 +150,7 @@ module _ (xs ys : List ℕ) (hx : Below 10 xs) (hy : Below 10 ys) where
 pub read-printed : (neg : Bool) (xs ys : List ℕ) → Below 10 (readFrom neg xs) → Below 10 ys → 1 ≤ length (readFrom neg xs)
     → length (readFrom neg xs) + length ys ≤ 65 → length ys ≤ 30
     → readText (signText neg ++ (map show xs ++ tailOf ys))
-    ≡ record { refusal = 0; negative = neg; intg = length (readFrom neg xs); frac = length ys; digits = padded (readFrom neg xs ++ ys) }
+    ≡ record { refusal = 0; negative = neg; intg = length (readFrom neg xs); frac = length ys; digits = readFrom neg xs ++ ys }
 unfolding readText
 read-printed neg xs ys hx hy h l m =
     let zs = readFrom neg xs in

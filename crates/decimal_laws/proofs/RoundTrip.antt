@@ -12,11 +12,10 @@ use lib.Seq.{take-add}
 use borrow.Author.Tests.{le-leb, ne-eqb, eqb-true}
 use Rattle.refusal.specs.Told.{answer}
 use Rattle.groups.specs.Numbers.{tab, all, Below}
-use Rattle.groups.specs.Layout.{formOf, baseOf, wideOf, digitsAt, offset, sizeIn, size}
+use Rattle.groups.specs.Layout.{formOf, baseOf, wideOf, digitsAt, offset, sizeIn, size, Form}
 use Rattle.groups.specs.Packed.{digitsIn}
 use Rattle.groups.specs.Read.{groupAt, rangeAt, storedAt, unitOf, readGroups}
 use Rattle.groups.specs.Write.{digitsOk, groupDigits, digitsTo, wellAt, wellFormed, written}
-use Rattle.groups.specs.declared.Form.{Form}
 use Rattle.groups.specs.declared.Groups.{Groups}
 use Rattle.groups.proofs.Accept.{in-range, well-digits}
 use Rattle.groups.proofs.Tab.{tab-at, filled, all-true, all-each}

@@ -12,9 +12,8 @@ use lib.ListN.{length, take, drop, length-append, length-drop}
 use lib.Seq.{take-add, take-all, length-take-le}
 use borrow.Author.Tests.{lt-ltb, le-ltb, ltb-true, ltb-false}
 use Rattle.groups.specs.Numbers.{number, tab}
-use Rattle.groups.specs.Layout.{groupsOf, side, digitsAt, offset}
+use Rattle.groups.specs.Layout.{groupsOf, side, digitsAt, offset, Digits}
 use Rattle.groups.specs.Read.{groupAt, storedAt, unitOf}
-use Rattle.groups.specs.declared.Form.the-variants.{Digits}
 use Rattle.groups.proofs.Radix.{number-snoc}
 use Rattle.groups.proofs.Sizes.{digits-size}
 use Rattle.groups.proofs.Places.{within}

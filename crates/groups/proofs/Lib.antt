@@ -11,7 +11,4 @@ pub mod Store
 pub mod Room
 pub mod Opened
 pub mod Caps
-pub mod Laid
 pub mod Sides
-pub mod Shade
-pub mod Parts

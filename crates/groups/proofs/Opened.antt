@@ -13,16 +13,12 @@ use lib.Seq.{getD-drop, length-take-le}
 use borrow.Author.Tests.{lt-ltb, le-leb, leb-true}
 use Rattle.refusal.specs.Told.{answer}
 use Rattle.groups.specs.Numbers.{number, tab, all, Below}
-use Rattle.groups.specs.Layout.{digitsAt, offset, sizeIn, size}
+use Rattle.groups.specs.Layout.{digitsAt, offset, sizeIn, size, Form, Digits}
 use Rattle.groups.specs.Packed.{digitsIn}
 use Rattle.groups.specs.Read.{inRange, groupAt, rangeAt, storedAt, noGroups, groupsIn, readGroups}
 use Rattle.groups.specs.Write.{sizeOf, wellFormed}
-use Rattle.groups.specs.declared.Form.{Form}
-use Rattle.groups.specs.declared.Form.the-variants.{Digits}
 use Rattle.groups.proofs.Accept.{well-digits}
-use Rattle.groups.proofs.Tab.{all-true}
 use Rattle.groups.proofs.Places.{within}
-use Rattle.groups.proofs.Sizes.{digits-size}
 
 -- ---- the three tests
 three : (a b c : Bool) (gs : List ℕ) → cond a (cond b (cond c (record { refusal = 0; groups = gs }) (noGroups 22)) (noGroups 21)) (noGroups 20) .refusal ≡ 0
@@ -78,12 +74,3 @@ digits-range i f ds h l k m =
     let w = within Digits i f k m in
     let e : length (take d (drop o ds)) ≡ d = length-take-le d (drop o ds) (simp length-drop (omega arith)) in
     lt-ltb _ _ (rw e at (number-lt 10 (take d (drop o ds)) (below-take 10 d (drop o ds) (below-drop 10 o ds h))))
-
-pub digits-read : (i f : ℕ) (ds : List ℕ) → f ≤ 30 → i + f ≤ 65 → i + f ≤ length ds → Below 10 ds
-    → readGroups Digits ds (i + f) f ≡ record { refusal = 0; groups = tab 9 (storedAt Digits i f ds) }
-unfolding digitsIn
-digits-read i f ds hf h l b =
-    let e = integral i f in
-    let n : sizeIn Digits i f ≤ length ds = rw (digits-size i f hf h) l in
-    let a = all-true (rangeAt Digits i f ds) 9 (digits-range i f ds b n) in
-    rw e at (reads Digits ds (i + f) f (range-of i f hf h) (rw e n) (rw e a))

@@ -9,12 +9,9 @@ use native.Mathlib.Numerals.{add-one}
 use native.Mathlib.Omega.{arith}
 use lib.Pow.{pow-add}
 use lib.Dec.{ltb, lit<}
-use Rattle.groups.specs.Layout.{wideOf, groupsOf, side, digitsAt, offset}
-use Rattle.groups.specs.Read.{unitOf, storedAt, rangeAt}
-use Rattle.groups.specs.Course.{oneAt}
-use Rattle.groups.specs.declared.Form.{Form}
-use Rattle.groups.specs.declared.reader.One.{One}
-use mathlib.Core.List.{List}
+use borrow.Author.Tests.{le-leb}
+use Rattle.groups.specs.Layout.{wideOf, groupsOf, side, digitsAt, offset, Form, powerOf}
+use Rattle.groups.specs.Read.{unitOf}
 
 module _ (F : Form) (i f : ℕ) where
   pub offset-mono : (m k : ℕ) → k ≤ m → offset F i f k ≤ offset F i f m
@@ -44,6 +41,14 @@ digits-le i f k = go (ltb k (groupsOf i))
 pub pow-pos10 : (n : ℕ) → 0 < 10 ^ n
 pow-pos10 n = le-trans (le-refl 1) (pow-le-pow-right (lit< tt) {i = 0} {j = n} (omega arith))
 
+pub ten-most : (d : ℕ) → d ≤ 9 → 10 ^ d ≤ 1000000000
+ten-most d h = pow-le-pow-right (lit< tt) {j = 9} h
+
+-- the table's power of so many digits as a group can have
+pub power-is : (d : ℕ) → d ≤ 9 → powerOf d ≡ 10 ^ d
+unfolding powerOf
+power-is d h = simp (le-leb d 9 h)
+
 pub nine : (d : ℕ) → d ≤ 9 → 10 ^ d * 10 ^ (9 - d) ≡ 1000000000
 nine d h = sym (pow-add 10 d (9 - d)) ∙ ap (λ (n : ℕ). 10 ^ n) (let e : d + (9 - d) ≡ 9 = omega arith in e)
 
@@ -62,25 +67,3 @@ stored-lt i k d x h l = go (ltb k (groupsOf i))
     go : (t : Bool) → x * cond t 1 (10 ^ (9 - d)) < 1000000000
     go true = rw mul-one (lt-of-lt-of-le l (pow-le-pow-right (lit< tt) {j = 9} h))
     go false = subst (λ (n : ℕ). x * 10 ^ (9 - d) < n) (nine d h) (mul-lt-mul-of-pos-right l (pow-pos10 (9 - d)))
-
--- ---- one group, read
-module _ (F : Form) (i f : ℕ) (ps : List ℕ) (k : ℕ) where
-  pub one-ok : oneAt F i f ps k .ok ≡ rangeAt F i f ps k
-  unfolding oneAt
-  one-ok = go (rangeAt F i f ps k)
-    where
-      go : (t : Bool) → cond {A = One} t (record { ok = true; group = storedAt F i f ps k; next = offset F i f (k + 1) }) (record { ok = false; group = 0; next = offset F i f (k + 1) }) .ok ≡ t
-      go true = refl
-      go false = refl
-
-  pub one-next : oneAt F i f ps k .next ≡ offset F i f (k + 1)
-  unfolding oneAt
-  one-next = go (rangeAt F i f ps k)
-    where
-      go : (t : Bool) → cond {A = One} t (record { ok = true; group = storedAt F i f ps k; next = offset F i f (k + 1) }) (record { ok = false; group = 0; next = offset F i f (k + 1) }) .next ≡ offset F i f (k + 1)
-      go true = refl
-      go false = refl
-
-  pub one-group : rangeAt F i f ps k ≡ true → oneAt F i f ps k .group ≡ storedAt F i f ps k
-  unfolding oneAt
-  one-group h = simp h

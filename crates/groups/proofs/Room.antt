@@ -7,9 +7,8 @@ use lib.ListN.{length, drop}
 use borrow.Author.Tests.{le-leb, lt-leb}
 use Rattle.refusal.specs.Told.{answer, refusal}
 use mathlib.Core.Bool.{true}
-use Rattle.groups.specs.Layout.{sizeIn}
+use Rattle.groups.specs.Layout.{sizeIn, Form}
 use Rattle.groups.specs.Write.{wellFormed, written, roomTold, roomLeaves, writeTold, writeLeaves}
-use Rattle.groups.specs.declared.Form.{Form}
 use Rattle.groups.proofs.Store.{length-written}
 
 pub short : (bs out : List ℕ) {n : ℕ} → length bs ≡ n → length out < n → (roomTold bs out ≡ refusal 25) × (roomLeaves bs out ≡ out)

@@ -5,9 +5,7 @@ use mathlib.Core.List.{List, _++_, append-assoc}
 use Prim.Native.Nat.{ℕ, zero, suc, _+_, _<_}
 use lib.ListN.{length, take, drop, length-append}
 use lib.Seq.{take-at, drop-at, drop-drop}
-use Rattle.groups.specs.Layout.{baseOf, offset, sizeIn}
-use Rattle.groups.specs.declared.Form.{Form}
-use Rattle.groups.specs.declared.Form.the-variants.{Plain, Inverted, Digits}
+use Rattle.groups.specs.Layout.{baseOf, offset, sizeIn, Form, Plain, Inverted, Digits}
 use lib.Dec.{lit<}
 use Rattle.groups.specs.Numbers.{Below}
 use Rattle.groups.specs.Write.{digitsTo, groupDigits, written}

@@ -4,15 +4,24 @@
 -- no bytes and reads as 0, so that every decimal has nine. The bytes of 1234567890.1234 hold the groups 1, 234567890 and 1234; its
 -- record holds 123400000 for the last.
 -- Assumes nothing.
-use Prim.Native.Nat.{ℕ, zero, suc, _+_, _-_, _*_, _/_, min}
+use Prim.Native.Nat.{ℕ, zero, suc, _+_, _-_, _*_, _/_, _^_, min}
 use mathlib.Core.Bool.{Bool, true, false, cond}
-use lib.Dec.{ltb}
-use Rattle.groups.specs.declared.Form.{Form}
-use Rattle.groups.specs.declared.Form.the-variants.{Plain, Inverted, Digits}
+use lib.Dec.{leb, ltb}
+
+-- How the digits of all groups stand in bytes: packed, where the value is not negative or is; or a decimal digit to a byte, as a number. Digits is
+-- for the definitions of text; no function reads or writes it.
+pub data Form : Type 0 where
+  Plain : Form
+  Inverted : Form
+  Digits : Form
 
 -- the bytes of a group of d digits: of 0 to 9 digits 0, 1, 1, 2, 2, 3, 3, 4, 4, 4
 unfoldable pub width : ℕ → ℕ
 width d = min 4 ((d + 1) / 2)
+
+-- 10 to the d for d up to nine, the digits that a group can have, and 0 above
+unfoldable pub powerOf : ℕ → ℕ
+powerOf d = cond (leb d 9) (10 ^ d) 0
 
 -- the groups of a side of n digits
 unfoldable pub groupsOf : ℕ → ℕ

@@ -3,4 +3,5 @@ pub mod Layout
 pub mod Packed
 pub mod Read
 pub mod Write
+pub mod Sides
 pub mod Course

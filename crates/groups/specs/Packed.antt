@@ -7,8 +7,7 @@ use Prim.Native.Nat.{ℕ, _+_, _-_}
 use mathlib.Core.Bool.{cond}
 use mathlib.Core.List.{List, [], _∷_, map}
 use lib.Dec.{ltb}
-use Rattle.groups.specs.declared.Form.{Form}
-use Rattle.groups.specs.declared.Form.the-variants.{Plain, Inverted, Digits}
+use Rattle.groups.specs.Layout.{Form, Plain, Inverted, Digits}
 
 -- a byte with its first bit flipped
 unfoldable pub flip : ℕ → ℕ

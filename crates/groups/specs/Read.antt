@@ -1,4 +1,4 @@
--- What reading the groups of a decimal answers: 20, then 21, then 22 where a group has more digits than its place, else the nine groups as
+-- What reading the groups of a decimal answers (the function is that of `reading`): 20, then 21, then 22 where a group has more digits than its place, else the nine groups as
 -- they are kept in a record.
 -- Assumes nothing.
 use Prim.Native.Nat.{ℕ, _-_, _*_, _^_}
@@ -7,9 +7,8 @@ use mathlib.Core.List.{List}
 use lib.Dec.{leb, ltb}
 use lib.ListN.{length, take, drop, replicate}
 use Rattle.groups.specs.Numbers.{number, tab, both, all}
-use Rattle.groups.specs.Layout.{groupsOf, digitsAt, baseOf, wideOf, offset, sizeIn}
+use Rattle.groups.specs.Layout.{groupsOf, digitsAt, baseOf, wideOf, offset, sizeIn, Form}
 use Rattle.groups.specs.Packed.{digitsIn}
-use Rattle.groups.specs.declared.Form.{Form}
 use Rattle.groups.specs.declared.Groups.{Groups}
 
 -- accepted: precision at most 65, scale at most 30 and at most the precision. (0 with 0 is among them, and has no digits)
@@ -28,6 +27,7 @@ rangeAt F i f ds k = ltb (groupAt F i f ds k) (10 ^ digitsAt i f k)
 unfoldable pub unitOf : ℕ → ℕ → ℕ → ℕ
 unitOf i k d = cond (ltb k (groupsOf i)) 1 (10 ^ (9 - d))
 
+-- the group at place k as a record keeps it
 unfoldable pub storedAt : Form → ℕ → ℕ → List ℕ → ℕ → ℕ
 storedAt F i f ds k = groupAt F i f ds k * unitOf i k (digitsAt i f k)
 

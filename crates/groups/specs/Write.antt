@@ -1,4 +1,4 @@
--- What a well formed decimal is, and what writing its groups answers and leaves: 26, then 25, else the count of bytes; only these change.
+-- What a well formed decimal is, and what writing its groups answers and leaves (the function is that of `writing`; what is said of room is `printing`'s too): 26, then 25, else the count of bytes; only these change.
 -- Assumes nothing.
 use Prim.Native.Nat.{ℕ, zero, suc, _+_, _-_, _/_, _%_, _^_}
 use mathlib.Core.Bool.{Bool, cond}
@@ -7,10 +7,9 @@ use lib.Dec.{leb, ltb, eqb}
 use lib.ListN.{length, getD, drop}
 use Rattle.refusal.specs.Told.{Told, answer, refusal}
 use Rattle.groups.specs.Numbers.{digits, both, all}
-use Rattle.groups.specs.Layout.{digitsAt, baseOf, wideOf, size}
+use Rattle.groups.specs.Layout.{digitsAt, baseOf, wideOf, size, Form}
 use Rattle.groups.specs.Packed.{bytesOf}
 use Rattle.groups.specs.Read.{inRange, unitOf}
-use Rattle.groups.specs.declared.Form.{Form}
 use Rattle.groups.specs.declared.Counted.{Counted}
 use Rattle.groups.specs.declared.Counted.the-variants.{Bytes, Refused}
 

@@ -1,5 +1,5 @@
 // Which records are decimals.
-use super::layout::power;
+use super::layout::power_of;
 ghost use mathlib.Core.Path.{_≡_};
 ghost use Prim.Native.Nat.{_+_, _≤_};
 ghost use lib.ListN.{getD};
@@ -35,14 +35,14 @@ fn all_well(intg: usize, frac: usize, groups: &[u32; 9]) -> bool
     if !capped(groups, n + m) {
         return false;
     }
-    if groups[0] >= power(intg + 9 - 9 * n) {
+    if groups[0] >= power_of(intg + 9 - 9 * n) {
         return false;
     }
     let rest = 9 * m - frac;
     if rest == 0 {
         true
     } else {
-        groups[n + m - 1] % power(rest) == 0
+        groups[n + m - 1] % power_of(rest) == 0
     }
 }
 
@@ -62,18 +62,11 @@ fn digits_ok(intg: usize, frac: usize) -> bool
 }
 
 // Whether these digits and groups are those of a decimal.
-pub(crate) fn is_decimal(intg: usize, frac: usize, groups: &[u32; 9]) -> bool
+pub fn well_formed(intg: usize, frac: usize, groups: &[u32; 9]) -> bool
     ensures { λ r. ⌜ r ≡ wellFormed intg frac (now (groups .entry)) ⌝ }
 {
     if !digits_ok(intg, frac) {
         return false;
     }
     all_well(intg, frac, groups)
-}
-
-// The same, of groups by value.
-pub fn well_formed(intg: usize, frac: usize, groups: [u32; 9]) -> bool
-    ensures { λ r. ⌜ r ≡ wellFormed intg frac groups ⌝ }
-{
-    is_decimal(intg, frac, &groups)
 }

@@ -1,4 +1,5 @@
-pub mod Copies
+pub mod Numbers
 pub mod Scans
 pub mod Parts
+pub mod Grouped
 pub mod Limits

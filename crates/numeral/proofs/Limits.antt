@@ -2,18 +2,17 @@
 -- Assumes nothing.
 use mathlib.Core.Path.{_≡_, refl}
 use mathlib.Core.Bool.{Bool, true, false, cond}
-use mathlib.Core.List.{List, [], _∷_, _++_, map, map-append}
+use mathlib.Core.List.{List, [], _∷_, map, map-append}
 use Prim.Native.Nat.{ℕ, zero, suc, _+_, _-_, _≤_, _<_}
 use native.Mathlib.Omega.{arith}
 use lib.Dec.{leb, eqb, lit<}
-use lib.ListN.{length, getD, take, drop, replicate}
+use lib.ListN.{length, getD, take, drop}
 use lib.Seq.{take-length}
 use borrow.Author.Tests.{leb-true, eqb-true}
 use Rattle.groups.specs.Numbers.{Below}
 use Rattle.groups.proofs.Accept.{both-true}
 use Rattle.groups.proofs.Radix.{below-append}
-use Rattle.numeral.specs.Read.{isDigit, run, pointed, wholePart, fractionPart, isText, fewDigits, digitOf, digitsIn, padded, numeralOf, noNumeral, minus, strip, unsigned, readUnsigned, readText}
-use Rattle.numeral.specs.declared.Numeral.{Numeral}
+use Rattle.numeral.specs.Read.{Numeral, isDigit, run, pointed, wholePart, fractionPart, isText, fewDigits, digitOf, digitsIn, numeralOf, noNumeral, minus, strip, unsigned, readUnsigned, readText}
 
 -- ---- digits
 digit-lt : (c : ℕ) → isDigit c ≡ true → digitOf c < 10
@@ -40,19 +39,11 @@ unfolding pointed
 after-point [] e = λ k. lit< tt
 after-point (x ∷ xs) e = all-below xs (eqb-true (run xs) (length xs) (both-true (eqb x 46) (eqb (run xs) (length xs)) e .1))
 
-zeros-below : (n : ℕ) → Below 10 (replicate n 0)
-zeros-below zero k = lit< tt
-zeros-below (suc n) zero = lit< tt
-zeros-below (suc n) (suc k) = zeros-below n k
-
-text-below : (xs : List ℕ) → isText xs ≡ true → Below 10 (padded (digitsIn xs))
+text-below : (xs : List ℕ) → isText xs ≡ true → Below 10 (digitsIn xs)
 unfolding isText digitsIn
 text-below xs e =
     let p = both-true (pointed (drop (run xs) xs)) _ e .0 in
-    let n = 65 - length (map digitOf (wholePart xs ++ fractionPart xs)) in
-    below-append 10 (map digitOf (wholePart xs ++ fractionPart xs)) (replicate n 0)
-    (rw (map-append digitOf (wholePart xs) (fractionPart xs)) (below-append 10 (map digitOf (wholePart xs)) (map digitOf (fractionPart xs)) (run-below xs) (after-point (drop (run xs) xs) p)))
-    (zeros-below n)
+    rw (map-append digitOf (wholePart xs) (fractionPart xs)) (below-append 10 (map digitOf (wholePart xs)) (map digitOf (fractionPart xs)) (run-below xs) (after-point (drop (run xs) xs) p))
 
 -- ---- what is read
 abbrev pub Within : Numeral → Type 0
@@ -66,7 +57,7 @@ unsigned-within : (neg : Bool) (xs : List ℕ) → readUnsigned neg xs .refusal 
 unfolding readUnsigned
 unsigned-within neg xs e = go (isText xs) (fewDigits (length (wholePart xs)) (length (fractionPart xs))) (text-below xs) (few (length (wholePart xs)) (length (fractionPart xs))) e
   where
-    go : (t u : Bool) → (t ≡ true → Below 10 (padded (digitsIn xs))) → (u ≡ true → (length (fractionPart xs) ≤ 30) × (length (wholePart xs) + length (fractionPart xs) ≤ 65))
+    go : (t u : Bool) → (t ≡ true → Below 10 (digitsIn xs)) → (u ≡ true → (length (fractionPart xs) ≤ 30) × (length (wholePart xs) + length (fractionPart xs) ≤ 65))
         → cond {A = Numeral} t (cond u (numeralOf neg xs) (noNumeral 24)) (noNumeral 23) .refusal ≡ 0
         → Within (cond {A = Numeral} t (cond u (numeralOf neg xs) (noNumeral 24)) (noNumeral 23))
     go true true h k e = (k refl .0, (k refl .1, h refl))

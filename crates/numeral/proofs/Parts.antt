@@ -1,32 +1,45 @@
--- The parts of a text from a place on, i digits and f digits after a point: what the definitions say of them, and the array that they are copied to.
+-- The parts of a text from a place on, i digits and f digits after a point: what the definitions say of them, and where each digit stands.
 -- Assumes nothing.
 use Prim.Native.Nat.{ℕ, zero, suc, _+_, _-_, _≤_}
-use mathlib.Core.Path.{_≡_, _∙_}
+use mathlib.Core.Path.{_≡_, refl, _∙_}
 use mathlib.Core.Bool.{Bool, false}
-use mathlib.Core.List.{List, _++_, map, map-append}
-use native.Mathlib.Nat.{zero-add, sub-zero, zero-sub, suc-sub-suc}
+use mathlib.Core.List.{List, [], _∷_, _++_, map, map-append, append-nil}
 use native.Mathlib.Omega.{arith}
 use lib.Dec.{leb}
-use lib.ListN.{length, take, drop, replicate, length-append, length-map, length-drop}
-use lib.Seq.{take-all, drop-drop, length-take-le}
+use lib.ListN.{length, take, drop, length-map, length-drop}
+use lib.Seq.{take-append-le, drop-append-le, drop-at, take-take, drop-drop, length-take-le}
 use borrow.Author.Tests.{le-leb, lt-leb, leb-true}
 use Rattle.groups.proofs.Accept.{both-true, is-false}
-use Rattle.groups.proofs.Store.{join}
-use Rattle.numeral.specs.Read.{run, wholePart, fractionPart, isText, fewDigits, digitOf, digitsIn, padded, noNumeral, readUnsigned}
+use Rattle.numeral.specs.Read.{run, wholePart, fractionPart, isText, fewDigits, digitOf, digitsIn, noNumeral, readUnsigned}
 use Rattle.numeral.specs.Course.{fractionAt}
 use Rattle.numeral.specs.declared.reader.Fraction.the-variants.{Places, Other}
-use Rattle.numeral.proofs.Copies.{copy-none}
 use Rattle.numeral.proofs.Scans.{run-le, no-fraction, a-fraction}
 
-drop-zeros : (n m : ℕ) → drop n (replicate {A = ℕ} m 0) ≡ replicate (m - n) 0
-drop-zeros zero m = rw (sub-zero m)
-drop-zeros (suc n) zero = rw (zero-sub (suc n))
-drop-zeros (suc n) (suc m) = rw (suc-sub-suc m n) (drop-zeros n m)
+-- ---- a part of a list, after a function is applied to its elements, and of what a list begins with
+take-map : (g : ℕ → ℕ) (n : ℕ) (xs : List ℕ) → take n (map g xs) ≡ map g (take n xs)
+take-map g zero xs = refl
+take-map g (suc n) [] = refl
+take-map g (suc n) (x ∷ xs) = rw (take-map g n xs)
 
--- the array once i digits of the text are copied to its front
-abbrev begun : List ℕ → ℕ → ℕ → List ℕ
-begun t from i = take 0 (replicate 65 0) ++ (map digitOf (take i (drop from t)) ++ drop (0 + i) (replicate 65 0))
+drop-map : (g : ℕ → ℕ) (n : ℕ) (xs : List ℕ) → drop n (map g xs) ≡ map g (drop n xs)
+drop-map g zero xs = refl
+drop-map g (suc n) [] = refl
+drop-map g (suc n) (x ∷ xs) = drop-map g n xs
 
+part-of : (g : ℕ → ℕ) (xs ys : List ℕ) (o n : ℕ) → o + n ≤ length xs → take n (drop o (map g xs ++ ys)) ≡ map g (take n (drop o xs))
+part-of g xs ys o n h =
+    let e = length-map xs g in
+    let l : n ≤ length (drop o (map g xs)) = simp length-drop (omega arith) in
+    rw (drop-append-le o (map g xs) ys (omega arith), take-append-le n (drop o (map g xs)) ys l, drop-map g o xs, take-map g n (drop o xs))
+
+within-front : (xs : List ℕ) (i o n : ℕ) → o + n ≤ i → take n (drop o (take i xs)) ≡ take n (drop o xs)
+within-front xs i zero n h = take-take n i xs (omega arith)
+within-front [] zero (suc o) n h = refl
+within-front [] (suc i) (suc o) n h = refl
+within-front (x ∷ xs) zero (suc o) n h = absurd (omega arith)
+within-front (x ∷ xs) (suc i) (suc o) n h = within-front xs i o n (omega arith)
+
+-- ---- too many digits
 many : (i f : ℕ) → (i + f ≤ 65 → f ≤ 30 → ⊥) → fewDigits i f ≡ false
 unfolding fewDigits
 many i f h =
@@ -64,29 +77,22 @@ module _ (t : List ℕ) (from i : ℕ) (p : i ≡ run (drop from t)) where
     read-many neg h k = simp (is-text, le-leb 1 (i + f) h, counts .0, counts .1, many i f k)
 
     pub read-some : (neg : Bool) → 1 ≤ i + f → i + f ≤ 65 → f ≤ 30
-        → readUnsigned neg (drop from t) ≡ record { refusal = 0; negative = neg; intg = i; frac = f; digits = padded (digitsIn (drop from t)) }
+        → readUnsigned neg (drop from t) ≡ record { refusal = 0; negative = neg; intg = i; frac = f; digits = digitsIn (drop from t) }
     unfolding readUnsigned fewDigits
     read-some neg h k l = simp (is-text, le-leb 1 (i + f) h, counts .0, counts .1, le-leb (i + f) 65 k, le-leb f 30 l)
 
-    -- ---- the digits, copied into zeros
-    digits-are : digitsIn (drop from t) ≡ map digitOf (take i (drop from t)) ++ map digitOf (drop (from + i + 1) t)
+    -- ---- the digits, before and after the point
+    digits-are : digitsIn (drop from t) ≡ map digitOf (take i (drop from t)) ++ (map digitOf (drop (from + i + 1) t) ++ [])
     unfolding digitsIn
-    digits-are = rw (← p, map-append, drop-drop i, drop-drop 1)
+    digits-are = rw (← p, map-append, drop-drop i, drop-drop 1) (simp append-nil)
 
-    front : length (map digitOf (take i (drop from t))) ≡ i
-    front = length-map (take i (drop from t)) digitOf ∙ whole-length
+    pub digits-before : (o n : ℕ) → o + n ≤ i → take n (drop o (digitsIn (drop from t))) ≡ map digitOf (take n (drop (from + o) t))
+    digits-before o n h =
+        let xs = drop from t in
+        rw (digits-are, part-of digitOf (take i xs) _ o n (rw whole-length h), within-front xs i o n h, drop-drop o)
 
-    size : length (digitsIn (drop from t)) ≡ i + f
-    size = rw (digits-are, length-append, front, length-map, fraction-length)
-
-    pub fraction-copied : (D : List ℕ) → D ≡ begun t from i
-        → take i D ++ (map digitOf (take f (drop (from + i + 1) t)) ++ drop (i + f) D) ≡ padded (digitsIn (drop from t))
-    fraction-copied D q =
+    pub digits-after : (o n : ℕ) → o + n ≤ f → take n (drop (i + o) (digitsIn (drop from t))) ≡ map digitOf (take n (drop (from + i + 1 + o) t))
+    digits-after o n h =
         let A = map digitOf (take i (drop from t)) in
-        let F = drop (from + i + 1) t in
-        let r : D ≡ A ++ drop i (replicate 65 0) = q ∙ rw zero-add in
-        let l : length F ≤ f = omega (arith, fraction-length) in
-        rw (r, take-all f F l) (join A (map digitOf F) (replicate 65 0) i f front ∙ rw (size, drop-zeros (i + f) 65, digits-are))
-
-    pub whole-copied : (D : List ℕ) → D ≡ begun t from i → f ≡ 0 → D ≡ padded (digitsIn (drop from t))
-    whole-copied D q h = copy-none D i ∙ rw h at (fraction-copied D q)
+        let l : length A ≡ i = length-map (take i (drop from t)) digitOf ∙ whole-length in
+        rw (digits-are, ← drop-drop o i, drop-at A _ i l, part-of digitOf (drop (from + i + 1) t) _ o n (rw fraction-length h), drop-drop o)

@@ -84,13 +84,20 @@ run-le (x ∷ xs) = go (isDigit x) (run-le xs)
     go true h = omega arith
     go false h = omega arith
 
-run-at : (xs : List ℕ) (k : ℕ) → k < run xs → 48 ≤ getD xs k 0
+-- a digit's character
+abbrev Figure : ℕ → Type 0
+Figure c = (48 ≤ c) × (c ≤ 57)
+
+figure : (c : ℕ) → isDigit c ≡ true → Figure c
+figure c e = let b = both-true (leb 48 c) (leb c 57) e in (leb-true 48 c (b .0), leb-true c 57 (b .1))
+
+run-at : (xs : List ℕ) (k : ℕ) → k < run xs → Figure (getD xs k 0)
 unfolding run
 run-at [] k h = absurd (omega arith)
 run-at (x ∷ xs) k h = go (isDigit x) refl (run-at xs) k h
   where
-    go : (b : Bool) → isDigit x ≡ b → ((j : ℕ) → j < run xs → 48 ≤ getD xs j 0) → (k : ℕ) → k < cond b (suc (run xs)) 0 → 48 ≤ getD (x ∷ xs) k 0
-    go true e r zero h = leb-true 48 x (both-true (leb 48 x) (leb x 57) e .0)
+    go : (b : Bool) → isDigit x ≡ b → ((j : ℕ) → j < run xs → Figure (getD xs j 0)) → (k : ℕ) → k < cond b (suc (run xs)) 0 → Figure (getD (x ∷ xs) k 0)
+    go true e r zero h = figure x e
     go true e r (suc k) h = r k (omega arith)
     go false e r k h = absurd (omega arith)
 

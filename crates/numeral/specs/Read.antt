@@ -4,9 +4,20 @@ use Prim.Native.Nat.{ℕ, suc, _+_, _-_}
 use mathlib.Core.Bool.{Bool, true, false, cond}
 use mathlib.Core.List.{List, [], _∷_, _++_, map}
 use lib.Dec.{leb, eqb}
-use lib.ListN.{length, take, drop, replicate}
-use Rattle.groups.specs.Numbers.{both}
-use Rattle.numeral.specs.declared.Numeral.{Numeral}
+use lib.ListN.{length, take, drop}
+use Rattle.groups.specs.Numbers.{tab, both}
+use Rattle.groups.specs.Layout.{Digits}
+use Rattle.groups.specs.Read.{storedAt}
+use Rattle.numeral.specs.declared.Parsed.{Parsed}
+
+-- A sign, as many digits before the point and after it, and these digits, each a number from 0 to 9; or a refusal with digits of 0.
+-- The refusal is 0 where there is none.
+pub record Numeral : Type 0 where
+  pub refusal : ℕ
+  pub negative : Bool
+  pub intg : ℕ
+  pub frac : ℕ
+  pub digits : List ℕ
 
 -- while it begins "00" one zero is removed,
 unfoldable pub strip : List ℕ → List ℕ
@@ -57,16 +68,12 @@ digitOf c = c - 48
 unfoldable pub digitsIn : List ℕ → List ℕ
 digitsIn xs = map digitOf (wholePart xs ++ fractionPart xs)
 
--- digits in an array of 65
-abbrev pub padded : List ℕ → List ℕ
-padded ds = ds ++ replicate (65 - length ds) 0
-
 abbrev pub noNumeral : ℕ → Numeral
-noNumeral n = record { refusal = n; negative = false; intg = 0; frac = 0; digits = replicate 65 0 }
+noNumeral n = record { refusal = n; negative = false; intg = 0; frac = 0; digits = [] }
 
 abbrev pub numeralOf : Bool → List ℕ → Numeral
 numeralOf neg xs =
-    record { refusal = 0; negative = neg; intg = length (wholePart xs); frac = length (fractionPart xs); digits = padded (digitsIn xs) }
+    record { refusal = 0; negative = neg; intg = length (wholePart xs); frac = length (fractionPart xs); digits = digitsIn xs }
 
 -- 23 before 24
 unfoldable pub readUnsigned : Bool → List ℕ → Numeral
@@ -74,3 +81,14 @@ readUnsigned neg xs = cond (isText xs) (cond (fewDigits (length (wholePart xs)) 
 
 unfoldable pub readText : List ℕ → Numeral
 readText bs = readUnsigned (minus (strip bs)) (unsigned (strip bs))
+
+-- the numeral with its digits in groups of nine
+abbrev pub parsed : Numeral → Parsed
+parsed t =
+    record {
+      refusal = t .refusal;
+      negative = t .negative;
+      intg = t .intg;
+      frac = t .frac;
+      groups = tab 9 (storedAt Digits (t .intg) (t .frac) (t .digits));
+    }

@@ -1,11 +1,13 @@
-// From text to digits.
-use super::Numeral;
+// From text to groups of nine digits.
+use super::Parsed;
 ghost use mathlib.Core.Path.{_≡_};
-ghost use mathlib.Core.List.{_++_, map};
-ghost use Prim.Native.Nat.{_+_, _<_, _≤_};
-ghost use lib.ListN.{length, take, drop};
-ghost use Rattle.numeral.specs.Read.{isDigit, strip, minus, unsigned, run, digitOf, digitsIn, padded, noNumeral, readUnsigned, readText};
-ghost use Rattle.numeral.specs.Course.{zeroZero, fractionAt, DigitsFrom};
+ghost use Prim.Native.Nat.{_+_, _-_, _*_, _^_, _<_, _≤_};
+ghost use lib.ListN.{length, drop};
+ghost use Rattle.groups.specs.Numbers.{tab};
+ghost use Rattle.groups.specs.Layout.{Digits};
+ghost use Rattle.groups.specs.Read.{storedAt};
+ghost use Rattle.numeral.specs.Read.{isDigit, strip, minus, unsigned, run, digitOf, digitsIn, noNumeral, readUnsigned, readText, parsed};
+ghost use Rattle.numeral.specs.Course.{zeroZero, fractionAt, DigitsFrom, numberAt, Nines};
 
 fn is_digit(c: u8) -> bool
     ensures { λ r. ⌜ r ≡ isDigit c ⌝ }
@@ -104,55 +106,76 @@ fn fraction_at(text: &[u8], at: usize) -> Fraction
     }
 }
 
-// Copies n digits of the text, from a place on, to `at` and what follows it.
-fn take_digits(out: &mut [u8], at: usize, text: &[u8], from: usize, n: usize)
-    requires { ⌜ (at + n ≤ length (now out)) × (from + n ≤ length (now text)) ⌝ }
-    requires { ⌜ DigitsFrom from n (now text) ⌝ }
-    ensures { λ _. ⌜ now (out .exit) ≡ take at (now (out .entry)) ++ (map digitOf (take n (drop from (now (text .entry)))) ++ drop (at + n) (now (out .entry))) ⌝ }
-{
-    for i in 0..n {
-        out[at + i] = digit_of(text[from + i]);
-    }
-}
-
-fn digit_of(c: u8) -> u8
+fn digit_of(c: u8) -> u32
     requires { ⌜ 48 ≤ c ⌝ }
     ensures { λ r. ⌜ r ≡ digitOf c ⌝ }
 {
-    c - 48
+    (c - 48) as u32
 }
 
-// The digits from a place on, and those of a fraction one place after them.
-fn digits_in(text: &[u8], from: usize, intg: usize, frac: usize) -> [u8; 65]
+// The number that n digits of the text write.
+fn number_at(text: &[u8], from: usize, n: usize) -> u32
+    requires { ⌜ (n ≤ 9) × (from + n ≤ length (now text)) ⌝ }
+    requires { ⌜ DigitsFrom from n (now text) ⌝ }
+    ensures { λ r. ⌜ (r ≡ numberAt (now (text .entry)) from n) × (r < 10 ^ n) ⌝ }
+{
+    let mut x: u32 = 0;
+    for i in 0..n {
+        x = x * 10 + digit_of(text[from + i]);
+    }
+    x
+}
+
+// Reads whole groups of nine digits from one place to another, and returns the place in the text after them.
+fn take_nines(gs: &mut [u32; 9], text: &[u8], at: usize, from: usize, to: usize) -> usize
+    requires { ⌜ (from ≤ to) × ((to ≤ 9) × (at + 9 * (to - from) ≤ length (now text))) ⌝ }
+    requires { ⌜ DigitsFrom at (9 * (to - from)) (now text) × (length (now gs) ≡ 9) ⌝ }
+    ensures { λ r. ⌜ r ≡ at + 9 * (to - from) ⌝ }
+    ensures { λ _. ⌜ Nines (now (text .entry)) at from to (now (gs .entry)) (now (gs .exit)) ⌝ }
+{
+    let mut p = at;
+    for k in from..to {
+        gs[k] = number_at(text, p, 9);
+        p += 9;
+    }
+    p
+}
+
+// The groups of the digits from a place on, those of a fraction after the point.
+fn groups_in(text: &[u8], from: usize, intg: usize, frac: usize) -> [u32; 9]
     requires { ⌜ intg + frac ≤ 65 ⌝ }
     requires { ⌜ (intg ≡ run (drop from (now text))) × (from + intg ≤ length (now text)) ⌝ }
     requires { ⌜ fractionAt (drop (from + intg) (now text)) ≡ Fraction.Places frac ⌝ }
-    ensures { λ r. ⌜ r ≡ padded (digitsIn (drop from (now (text .entry)))) ⌝ }
+    ensures { λ r. ⌜ r ≡ tab 9 (storedAt Digits intg frac (digitsIn (drop from (now (text .entry))))) ⌝ }
 {
-    let mut digits = [0u8; 65];
-    take_digits(&mut digits, 0, text, from, intg);
+    let s = groups::sides_of(intg, frac);
+    let mut gs = [0u32; 9];
+    gs[0] = number_at(text, from, s.lead);
+    let at = take_nines(&mut gs, text, from + s.lead, s.first, s.point);
     if 0 < frac {
-        take_digits(&mut digits, intg, text, from + intg + 1, frac);
+        let next = take_nines(&mut gs, text, at + 1, s.point, s.last);
+        let last = s.last;
+        gs[last] = number_at(text, next, s.tail) * groups::power(9 - s.tail);
     }
-    digits
+    gs
 }
 
-fn no_numeral(refusal: u8) -> Numeral
-    ensures { λ r. ⌜ r ≡ noNumeral refusal ⌝ }
+fn no_numeral(refusal: u8) -> Parsed
+    ensures { λ r. ⌜ r ≡ parsed (noNumeral refusal) ⌝ }
 {
-    Numeral {
+    Parsed {
         refusal,
         negative: false,
         intg: 0,
         frac: 0,
-        digits: [0u8; 65],
+        groups: [0u32; 9],
     }
 }
 
 // The numeral that the text from a place on writes, after its sign.
-fn read_unsigned(text: &[u8], from: usize, negative: bool) -> Numeral
+fn read_unsigned(text: &[u8], from: usize, negative: bool) -> Parsed
     requires { ⌜ from ≤ length (now text) ⌝ }
-    ensures { λ r. ⌜ r ≡ readUnsigned negative (drop from (now (text .entry))) ⌝ }
+    ensures { λ r. ⌜ r ≡ parsed (readUnsigned negative (drop from (now (text .entry)))) ⌝ }
 {
     let intg = digit_run(text, from);
     let f = fraction_at(text, from + intg);
@@ -168,18 +191,18 @@ fn read_unsigned(text: &[u8], from: usize, negative: bool) -> Numeral
     if 30 < frac {
         return no_numeral(refusal::DIGITS);
     }
-    Numeral {
+    Parsed {
         refusal: 0,
         negative,
         intg,
         frac,
-        digits: digits_in(text, from, intg, frac),
+        groups: groups_in(text, from, intg, frac),
     }
 }
 
 // The numeral that the text writes.
-pub fn read(text: &[u8]) -> Numeral
-    ensures { λ r. ⌜ r ≡ readText (now (text .entry)) ⌝ }
+pub fn read(text: &[u8]) -> Parsed
+    ensures { λ r. ⌜ r ≡ parsed (readText (now (text .entry))) ⌝ }
 {
     let at = skip_zeros(text);
     let negative = is_minus(text, at);

@@ -4,22 +4,20 @@ use mathlib.Core.Path.{_≡_, refl, sym, ap, _∙_}
 use mathlib.Core.Bool.{Bool, true, false}
 use mathlib.Core.List.{List, [], _∷_, _++_, map, map-append, append-assoc, append-nil}
 use Prim.Native.Nat.{ℕ, zero, suc, _+_, _-_, _*_, _/_, _%_, _^_, _≤_, _<_}
-use native.Mathlib.Nat.{pow-zero, pow-succ', pow-le-pow-right, div-one, div-add-mod', le-of-eq, le-refl, add-suc}
+use native.Mathlib.Nat.{pow-zero, pow-succ', pow-le-pow-right, div-one, le-of-eq, le-refl, add-suc}
 use native.Mathlib.Numerals.{one-add}
 use native.Mathlib.Omega.{arith}
 use lib.Dec.{eqb, leb, ltb, lit<}
-use lib.ListN.{length, getD, take, drop, set, length-append, length-map, List·getD-append, List·getD-eq-default}
+use lib.ListN.{length, getD, take, drop, set, length-append, length-map, List·getD-append}
 use lib.Seq.{take-at, drop-at, take-all, length-take-le, take-set-le, drop-cons, drop-set-lt, getD-set-same, lt-length-set}
-use borrow.Author.Tests.{lt-ltb, le-ltb, eq-eqb, ne-eqb, leb-true, leb-false, ltb-true, ltb-false, eqb-true}
-use Rattle.groups.specs.Numbers.{digits, all, Below}
-use Rattle.groups.specs.Layout.{groupsOf, side, digitsAt}
+use borrow.Author.Tests.{lt-ltb, le-ltb, eq-eqb, ne-eqb, leb-true, leb-false, ltb-true}
+use Rattle.groups.specs.Numbers.{digits, all}
+use Rattle.groups.specs.Layout.{groupsOf, side, digitsAt, Digits}
 use Rattle.groups.specs.Read.{unitOf}
 use Rattle.groups.specs.Write.{groupDigits, digitsTo, digitsOk, wellAt, wellFormed}
-use Rattle.groups.specs.declared.Form.the-variants.{Digits}
 use Rattle.groups.proofs.Radix.{length-digits}
 use Rattle.groups.proofs.Accept.{both-true, well-digits}
 use Rattle.groups.proofs.Tab.{all-each}
-use Rattle.groups.proofs.Places.{stored-lt, digits-le}
 use Rattle.groups.proofs.Store.{join}
 use Rattle.printing.specs.Print.{show, unpadded, firstDigits, wholeDigits, fractionText, signText, textOf}
 use Rattle.printing.specs.Course.{nines, before, rest, wholeText, wholeLength, pointText, fractionLength, Significant}

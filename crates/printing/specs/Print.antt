@@ -7,9 +7,8 @@ use mathlib.Core.List.{List, [], _∷_, _++_, map}
 use lib.Dec.{eqb}
 use lib.ListN.{take, drop}
 use Rattle.refusal.specs.Told.{Told, refusal}
-use Rattle.groups.specs.Layout.{side, groupsOf}
+use Rattle.groups.specs.Layout.{side, groupsOf, Digits}
 use Rattle.groups.specs.Write.{wellFormed, digitsTo, roomTold, roomLeaves}
-use Rattle.groups.specs.declared.Form.the-variants.{Digits}
 
 -- the character of a digit
 abbrev pub show : ℕ → ℕ

@@ -8,7 +8,7 @@ ghost use Prim.Native.Nat.{_+_, _-_, _*_, _/_, _%_, _^_, _<_, _≤_};
 ghost use lib.ListN.{length, take, drop};
 ghost use Rattle.groups.specs.Numbers.{digits};
 ghost use Rattle.groups.specs.Write.{told, wellFormed, digitsTo, roomTold, roomLeaves};
-ghost use Rattle.groups.specs.declared.Form.the-variants.{Digits};
+ghost use Rattle.groups.specs.Layout.{Digits};
 ghost use Rattle.printing.specs.Print.{show, signText, textOf, printTold, printLeaves};
 ghost use Rattle.printing.specs.Course.{nines, wholeText, wholeLength, pointText, fractionLength, Significant};
 
@@ -212,7 +212,7 @@ pub fn print(out: &mut [u8], sign: bool, intg: usize, frac: usize, groups: [u32;
     ensures { λ r. ⌜ told r ≡ printTold sign intg frac groups (now (out .entry)) ⌝ }
     ensures { λ _. ⌜ now (out .exit) ≡ printLeaves sign intg frac groups (now (out .entry)) ⌝ }
 {
-    if !groups::well_formed(intg, frac, groups) {
+    if !groups::well_formed(intg, frac, &groups) {
         return Counted::Refused(refusal::RECORD);
     }
     print_well(out, sign, intg, frac, &groups)

@@ -12,11 +12,10 @@ use Rattle.order.specs.Value.{told, compareTold}
 use Rattle.order.proofs.compare.Statement.{statement}
 use Rattle.order.proofs.compare.Tie as tie
 
-well-a : (c : tie.Else1) → wellFormed (c .before .before .args .ia) (c .before .before .args .fa) (c .before .before .args .ga) ≡ true
+well-a : (c : tie.Else1) → let a = c .before .before .before .args in wellFormed (a .ia) (a .fa) (a .t4) ≡ true
 well-a c = sym (c .before .well-formed .ensures) ∙ not-false (c .before .well-formed .result) (c .if1 .left)
 
-well-b : (c : tie.Else2) →
-    wellFormed (c .before .before .before .before .args .ib) (c .before .before .before .before .args .fb) (c .before .before .before .before .args .gb) ≡ true
+well-b : (c : tie.Else2) → let a = c .before .before .before .before .before .before .args in wellFormed (a .ib) (a .fb) (a .t8) ≡ true
 well-b c = sym (c .before .well-formed2 .ensures) ∙ not-false (c .before .well-formed2 .result) (c .if2 .left)
 
 well-formed-requires : tie.Need-well-formed-requires
@@ -31,12 +30,12 @@ well-formed-requires-2 c κs = search needs
 
 returns-2 : tie.Need-returns-2
 unfolding compareTold
-returns-2 c = sym (simp (well-a (c .before .before), sym (c .before .well-formed2 .ensures) ∙ not-true (c .before .well-formed2 .result) (c .if2 .taken)))
+returns-2 c = sym (simp (well-a (c .before .before .before), sym (c .before .well-formed2 .ensures) ∙ not-true (c .before .well-formed2 .result) (c .if2 .taken)))
 
 compare-values-requires : tie.Need-compare-values-requires
 compare-values-requires c κs =
     let d = c .before .before in
-    let a = well-a (d .before .before) in
+    let a = well-a (d .before .before .before) in
     let b = well-b d in
     let h = well-digits _ _ _ a in
     let k = well-digits _ _ _ b in
@@ -46,7 +45,7 @@ returns-3 : tie.Need-returns-3
 unfolding compareTold
 returns-3 c =
     let d = c .before .before .before in
-    ap told (c .compare-values .ensures) ∙ sym (simp (well-a (d .before .before), well-b d))
+    ap told (c .compare-values .ensures) ∙ sym (simp (well-a (d .before .before .before), well-b d))
 
 pub compare-spec : {M : Type 1} → statement M
 compare-spec =

@@ -2,7 +2,6 @@
 -- Assumes what the contract requires, and nothing else.
 use mathlib.Core.Path.{_∙_}
 use denote.Ref.{now}
-use borrow.Author.Needs.{needs}
 use Rattle.order.proofs.Lex.{order-scaled}
 use Rattle.order.proofs.order_of.Statement.{statement}
 use Rattle.order.proofs.order_of.Tie as tie

@@ -9,7 +9,7 @@ use borrow.Author.Needs.{needs}
 use Rattle.printing.proofs.print.Statement.{statement}
 use Rattle.printing.proofs.print.Tie as tie
 
-well : (c : tie.Else1) → let a = c .before .before .before .args in wellFormed (a .intg) (a .frac) (a .t5) ≡ true
+well : (c : tie.Else1) → let a = c .before .before .before .before .args in wellFormed (a .intg) (a .frac) (a .t5) ≡ true
 well c = sym (c .before .well-formed .ensures) ∙ not-false (c .before .well-formed .result) (c .if1 .left)
 
 well-formed-requires : tie.Need-well-formed-requires

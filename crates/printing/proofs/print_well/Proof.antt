@@ -7,9 +7,8 @@ use mathlib.Core.Path.{_≡_, sym, ap, _∙_}
 use mathlib.Core.List.{List, _++_}
 use native.Mathlib.Omega.{arith}
 use lib.ListN.{length, drop, length-append}
-use Rattle.groups.specs.Layout.{groupsOf}
+use Rattle.groups.specs.Layout.{groupsOf, Digits}
 use Rattle.groups.specs.Write.{digitsTo}
-use Rattle.groups.specs.declared.Form.the-variants.{Digits}
 use Rattle.groups.proofs.Accept.{well-digits}
 use Rattle.groups.proofs.Room.{short, fits}
 use Rattle.printing.specs.Print.{signText, textOf}

@@ -11,7 +11,7 @@ use borrow.Author.Needs.{needs}
 use Rattle.decimal.proofs.Decimal.bin_size.Statement.{statement}
 use Rattle.decimal.proofs.Decimal.bin_size.Tie as tie
 
-well : (c : tie.Else1) → isWell (c .before .before .before .args .self) ≡ true
+well : (c : tie.Else1) → isWell (c .before .before .before .before .args .self) ≡ true
 well c = sym (c .before .well-formed .ensures) ∙ not-false (c .before .well-formed .result) (c .if1 .left)
 
 well-formed-requires : tie.Need-well-formed-requires
@@ -31,7 +31,7 @@ returns-2 : tie.Need-returns-2
 unfolding binSize
 returns-2 c =
     let w = well (c .before .before) in
-    let d = c .before .before .before .before .before .args .self in
+    let d = c .before .before .before .before .before .before .args .self in
     c .size .ensures ∙ well-size (d .intg) (d .frac) (d .groups) w ∙ sym (simp w)
 
 pub bin-size-spec : {M : Type 1} → statement M

@@ -1,21 +1,20 @@
--- The refusals are those of the numeral, whose success bounds its digits.
+-- The refusals are those of the numeral; its groups are those of its digits, by what reading it ensures.
 -- Assumes nothing.
 use denote.Ref.{now}
-use mathlib.Core.Path.{_≡_, sym, _∙_, ap}
-use Rattle.numeral.specs.declared.Numeral.{Numeral}
-use Rattle.numeral.proofs.Limits.{Within, read-within}
+use mathlib.Core.Path.{sym, _∙_, ap}
+use Rattle.numeral.specs.declared.Parsed.{Parsed}
+use Rattle.order.specs.Value.{belowZero}
+use Rattle.decimal.specs.declared.Decimal.{Decimal}
 use Rattle.decimal.specs.Read.{refused, accepted}
-use Rattle.decimal.specs.Text.{ofNumeral}
+use Rattle.decimal.specs.Text.{ofDigits}
 use Rattle.decimal.proofs.Texts.{text-refused, text-read}
 use borrow.Author.Needs.{needs}
 use Rattle.decimal.proofs.Decimal.parse_str_bytes.Statement.{statement}
 use Rattle.decimal.proofs.Decimal.parse_str_bytes.Tie as tie
 
-within : (c : tie.After-read) → c .read .result .refusal ≡ 0 → Within (c .read .result)
-within c h =
-    let bs = now (c .before .before .args .text) in
-    let e = c .read .ensures in
-    rw e (read-within bs (ap (λ (x : Numeral). x .refusal) (sym e) ∙ h))
+-- the decimal of what was read
+abbrev made : Parsed → Decimal
+made t = record { intg = t .intg; frac = t .frac; sign = belowZero (t .negative) (t .groups); groups = t .groups }
 
 read-requires : tie.Need-read-requires
 read-requires c κs = search needs
@@ -27,22 +26,20 @@ returns : tie.Need-returns
 returns c =
     let t = c .before .before .before in
     let bs = now (t .before .before .args .text) in
-    let e = t .read .ensures in
-    c .refuse .ensures ∙ ap (λ (x : Numeral). refused (x .refusal)) e ∙ sym (text-refused bs (rw (ap (λ (x : Numeral). x .refusal) e) at (c .before .if1 .taken)))
+    let e = ap (λ (x : Parsed). x .refusal) (t .read .ensures) in
+    c .refuse .ensures ∙ ap refused e ∙ sym (text-refused bs (rw e at (c .before .if1 .taken)))
 
-of-digits-requires : tie.Need-of-digits-requires
-of-digits-requires c κs =
-    let t = c .before .before .before in
-    let h = within t (c .before .if1 .left) in
-    ((h .0, h .1 .0), h .1 .1)
+of-groups-requires : tie.Need-of-groups-requires
+of-groups-requires c κs = search needs
 
 returns-2 : tie.Need-returns-2
+unfolding ofDigits
 returns-2 c =
     let t = c .before .before .before .before in
     let bs = now (t .before .before .args .text) in
     let e = t .read .ensures in
-    ap accepted (c .of-digits .ensures ∙ ap ofNumeral e) ∙ sym (text-read bs (rw (ap (λ (x : Numeral). x .refusal) e) at (c .before .before .if1 .left)))
+    ap accepted (c .of-groups .ensures ∙ ap made e) ∙ sym (text-read bs (rw (ap (λ (x : Parsed). x .refusal) e) at (c .before .before .if1 .left)))
 
 pub parse-str-bytes-spec : {M : Type 1} → statement M
 parse-str-bytes-spec =
-    tie.close (tie.spec read-requires refuse-requires returns of-digits-requires returns-2)
+    tie.close (tie.spec read-requires refuse-requires returns of-groups-requires returns-2)

@@ -3,11 +3,11 @@
 use denote.Ref.{now}
 use Prim.Native.Nat.{_-_, _≤_}
 use mathlib.Core.Path.{_≡_, sym, _∙_, ap}
+use mathlib.Core.Bool.{Bool}
 use native.Mathlib.Omega.{arith}
 use Rattle.groups.specs.Layout.{formOf}
 use Rattle.groups.specs.Read.{readGroups}
 use Rattle.groups.specs.declared.Groups.{Groups}
-use Rattle.groups.specs.declared.Form.{Form}
 use Rattle.groups.proofs.Accept.{in-range}
 use Rattle.groups.proofs.Opened.{opened}
 use Rattle.decimal.specs.Read.{negative, accepted, fromGroups, readBin}
@@ -17,29 +17,25 @@ use Rattle.decimal.proofs.Decimal.read_bin.Statement.{statement}
 use Rattle.decimal.proofs.Decimal.read_bin.Tie as tie
 
 groups-are : (c : tie.After-read)
-    → let a = c .before .before .before .before .args in c .read .result ≡ readGroups (formOf (negative (now (a .bytes)))) (now (a .bytes)) (a .precision) (a .scale)
+    → let a = c .before .before .before .args in c .read .result ≡ readGroups (formOf (negative (now (a .bytes)))) (now (a .bytes)) (a .precision) (a .scale)
 groups-are c =
-    let a = c .before .before .before .before .args in
-    c .read .ensures
-    ∙ ap (λ (F : Form). readGroups F (now (a .bytes)) (a .precision) (a .scale)) (c .before .form-of .ensures ∙ ap formOf (c .before .before .is-negative .ensures))
+    let a = c .before .before .before .args in
+    c .read .ensures ∙ ap (λ (v : Bool). readGroups (formOf v) (now (a .bytes)) (a .precision) (a .scale)) (c .before .is-negative .ensures)
 
 read-as : (c : tie.After-read)
-    → let a = c .before .before .before .before .args in
-    fromGroups (c .read .result) (a .precision - a .scale) (a .scale) (c .before .before .is-negative .result) (a .keep) ≡ readBin (now (a .bytes)) (a .precision) (a .scale) (a .keep)
+    → let a = c .before .before .before .args in
+    fromGroups (c .read .result) (a .precision - a .scale) (a .scale) (c .before .is-negative .result) (a .keep) ≡ readBin (now (a .bytes)) (a .precision) (a .scale) (a .keep)
 unfolding readBin
-read-as c = simp (groups-are c, c .before .before .is-negative .ensures)
+read-as c = simp (groups-are c, c .before .is-negative .ensures)
 
 ranges : (c : tie.After-read) → c .read .result .refusal ≡ 0
-    → let a = c .before .before .before .before .args in (a .precision ≤ 65) × ((a .scale ≤ 30) × (a .scale ≤ a .precision))
+    → let a = c .before .before .before .args in (a .precision ≤ 65) × ((a .scale ≤ 30) × (a .scale ≤ a .precision))
 ranges c e =
-    let a = c .before .before .before .before .args in
+    let a = c .before .before .before .args in
     in-range _ _ (opened _ (now (a .bytes)) (a .precision) (a .scale) (ap (λ (g : Groups). g .refusal) (sym (groups-are c)) ∙ e) .0)
 
 is-negative-requires : tie.Need-is-negative-requires
 is-negative-requires c κs = search needs
-
-form-of-requires : tie.Need-form-of-requires
-form-of-requires c κs = search needs
 
 read-requires : tie.Need-read-requires
 read-requires c κs = search needs
@@ -50,8 +46,8 @@ refuse-requires c κs = search needs
 returns : tie.Need-returns
 returns c =
     let g = c .before .before .before in
-    let a = g .before .before .before .before .args in
-    c .refuse .ensures ∙ sym (groups-refused (g .read .result) (a .precision - a .scale) (a .scale) (g .before .before .is-negative .result) (a .keep) (c .before .if1 .taken)) ∙ read-as g
+    let a = g .before .before .before .args in
+    c .refuse .ensures ∙ sym (groups-refused (g .read .result) (a .precision - a .scale) (a .scale) (g .before .is-negative .result) (a .keep) (c .before .if1 .taken)) ∙ read-as g
 
 sub-finish : tie.Need-sub-finish
 sub-finish c = ranges (c .before .before .before) (c .before .if1 .left) .1 .1
@@ -62,16 +58,15 @@ finish-requires c κs = let h = ranges (c .before .before .before) (c .before .i
 returns-2 : tie.Need-returns-2
 returns-2 c =
     let g = c .before .before .before .before in
-    let a = g .before .before .before .before .args in
+    let a = g .before .before .before .args in
     ap accepted (c .finish .ensures)
-    ∙ sym (groups-read (g .read .result) (a .precision - a .scale) (a .scale) (g .before .before .is-negative .result) (a .keep) (c .before .before .if1 .left)) ∙ read-as g
+    ∙ sym (groups-read (g .read .result) (a .precision - a .scale) (a .scale) (g .before .is-negative .result) (a .keep) (c .before .before .if1 .left)) ∙ read-as g
 
 pub read-bin-spec : {M : Type 1} → statement M
 read-bin-spec =
     tie.close
     (tie.spec
     is-negative-requires
-    form-of-requires
     read-requires
     refuse-requires
     returns

@@ -1,48 +1,55 @@
 -- The rests and the whole groups by nine; a rest of no digits takes no place.
--- Assumes what the contract requires, and nothing else.
+-- Assumes nothing.
+use mathlib.Core.Path.{_≡_}
 use mathlib.Core.Logic.{⊎-elim}
 use native.Mathlib.Omega.{arith}
+use Rattle.groups.specs.Sides.{leadPlaces}
+use Rattle.groups.proofs.Sides.{point-is}
 use borrow.Author.Needs.{needs}
 use Rattle.groups.proofs.layout.sides_of.Statement.{statement}
 use Rattle.groups.proofs.layout.sides_of.Tie as tie
 
-ninth-requires : tie.Need-ninth-requires
-ninth-requires c κs = search needs
+add-point : tie.Need-add-point
+add-point c = ⊎-elim (λ w. omega arith) (λ w. omega arith) (c .before .if1 .came)
 
-ninth-requires-2 : tie.Need-ninth-requires-2
-ninth-requires-2 c κs = search needs
+width-of-requires : tie.Need-width-of-requires
+width-of-requires c κs = search needs
 
-mul-lead : tie.Need-mul-lead
-mul-lead c = search needs
+width-of-requires-2 : tie.Need-width-of-requires-2
+width-of-requires-2 c κs = search needs
 
-sub-lead : tie.Need-sub-lead
-sub-lead c = search needs
+add-t13 : tie.Need-add-t13
+add-t13 c = search needs
 
-add-t7 : tie.Need-add-t7
-add-t7 c = search needs
+mul-t14 : tie.Need-mul-t14
+mul-t14 c = search needs
 
-add-t10 : tie.Need-add-t10
-add-t10 c = ⊎-elim (λ w. omega arith) (λ w. omega arith) (c .before .if1 .came)
+add-t15 : tie.Need-add-t15
+add-t15 c = search needs
 
-mul-t11 : tie.Need-mul-t11
-mul-t11 c = search needs
+add-t16 : tie.Need-add-t16
+add-t16 c = search needs
 
-sub-t12 : tie.Need-sub-t12
-sub-t12 c = search needs
+add-t17 : tie.Need-add-t17
+add-t17 c = ⊎-elim (λ w. omega arith) (λ w. omega arith) (c .before .before .before .if1 .came)
 
 returns : tie.Need-returns
-returns c = ⊎-elim (λ w. omega arith) (λ w. omega arith) (c .before .if1 .came)
+returns c =
+    let j = c .before .before .before in
+    let i = j .before .args .intg in
+    let e : j .if1 .first ≡ leadPlaces i = ⊎-elim (λ w. omega arith) (λ w. omega arith) (j .if1 .came) in
+    rw (e, point-is i, c .width-of2 .ensures .0, c .before .width-of .ensures .0)
 
 pub sides-of-spec : {M : Type 1} → statement M
 sides-of-spec =
     tie.close
     (tie.spec
-    ninth-requires
-    ninth-requires-2
-    mul-lead
-    sub-lead
-    add-t7
-    add-t10
-    mul-t11
-    sub-t12
+    add-point
+    width-of-requires
+    width-of-requires-2
+    add-t13
+    mul-t14
+    add-t15
+    add-t16
+    add-t17
     returns)

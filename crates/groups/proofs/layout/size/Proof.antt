@@ -1,4 +1,4 @@
--- The range is tested first, and bounds the sizes.
+-- The range is tested first, and then the sum over the groups is that over the sides.
 -- Assumes nothing.
 use Prim.Native.Nat.{ℕ}
 use mathlib.Core.Path.{_≡_, sym, _∙_, ap}
@@ -10,7 +10,9 @@ use borrow.Author.Tests.{not-true, not-false}
 use Rattle.refusal.specs.Told.{answer}
 use Rattle.groups.specs.Read.{inRange}
 use Rattle.groups.specs.Write.{sizeOf}
+use Rattle.groups.specs.declared.layout.Sides.{Sides}
 use Rattle.groups.proofs.Accept.{in-range}
+use Rattle.groups.proofs.Sizes.{packed-sides}
 use Rattle.groups.proofs.layout.size.Statement.{statement}
 use Rattle.groups.proofs.layout.size.Tie as tie
 
@@ -24,17 +26,17 @@ returns : tie.Need-returns
 unfolding sizeOf
 returns c = sym (simp (sym (c .before .accepted .ensures) ∙ not-true (c .before .accepted .result) (c .if1 .taken)))
 
-sub-packed-size : tie.Need-sub-packed-size
-sub-packed-size c = in-range _ _ (ranges c) .1 .1
+sub-sides-of : tie.Need-sub-sides-of
+sub-sides-of c = in-range _ _ (ranges c) .1 .1
 
-packed-size-requires : tie.Need-packed-size-requires
-packed-size-requires c κs = let h = in-range _ _ (ranges c) in omega arith
+sides-of-requires : tie.Need-sides-of-requires
+sides-of-requires c κs = search needs
 
 returns-2 : tie.Need-returns-2
 unfolding sizeOf
-returns-2 c = ap (λ (n : ℕ). answer (n ∷ [])) (c .packed-size .ensures) ∙ sym (simp (ranges (c .before)))
+returns-2 c =
+    let h = in-range _ _ (ranges (c .before)) in
+    ap (λ (n : ℕ). answer (n ∷ [])) (ap (λ (s : Sides). s .size) (c .sides-of .ensures) ∙ sym (packed-sides _ _ (omega arith))) ∙ sym (simp (ranges (c .before)))
 
 pub size-spec : {M : Type 1} → statement M
-size-spec =
-    tie.close
-    (tie.spec accepted-requires returns sub-packed-size packed-size-requires returns-2)
+size-spec = tie.close (tie.spec accepted-requires returns sub-sides-of sides-of-requires returns-2)

@@ -1,11 +1,12 @@
--- The refusals in their order, by what follows the integral digits and by how many digits there are; past them the digits are copied.
+-- The refusals in their order, by what follows the integral digits and by how many digits there are; past them the groups are those of the digits.
 -- Assumes what the contract requires, and nothing else.
 use denote.Ref.{now}
 use Prim.Native.Nat.{_+_, _-_}
-use mathlib.Core.Path.{_≡_, sym, _∙_}
+use mathlib.Core.Path.{_≡_, sym, ap, _∙_}
 use native.Mathlib.Omega.{arith}
 use lib.ListN.{length, drop}
 use borrow.Author.Needs.{needs}
+use Rattle.numeral.specs.Read.{parsed}
 use Rattle.numeral.specs.Course.{fractionAt}
 use Rattle.numeral.specs.declared.reader.Fraction.the-variants.{Places}
 use Rattle.numeral.proofs.Parts.{fraction-size, read-other, read-none, read-many, read-some}
@@ -43,7 +44,7 @@ no-numeral-requires c κs = search needs
 returns : tie.Need-returns
 returns c =
     let g = c .before .before .before in
-    c .no-numeral .ensures ∙ sym (read-other _ _ _ (g .before .digit-run .ensures .0) _ (sym (g .fraction-at .ensures) ∙ c .before .enum-told .given .1))
+    c .no-numeral .ensures ∙ sym (ap parsed (read-other _ _ _ (g .before .digit-run .ensures .0) _ (sym (g .fraction-at .ensures) ∙ c .before .enum-told .given .1)))
 
 add-if1 : tie.Need-add-if1
 add-if1 c = let h = is-size (c .before) in omega arith
@@ -55,7 +56,7 @@ returns-2 : tie.Need-returns-2
 returns-2 c =
     let k = c .before .before .before in
     let d = k .before .before .before .digit-run in
-    c .no-numeral2 .ensures ∙ sym (read-none _ _ _ (d .ensures .0) _ (is-fraction k) _ (c .before .if1 .taken))
+    c .no-numeral2 .ensures ∙ sym (ap parsed (read-none _ _ _ (d .ensures .0) _ (is-fraction k) _ (c .before .if1 .taken)))
 
 add-if2 : tie.Need-add-if2
 add-if2 c = let h = is-size (c .before .before) in omega arith
@@ -67,7 +68,7 @@ returns-3 : tie.Need-returns-3
 returns-3 c =
     let k = c .before .before .before .before in
     let d = k .before .before .before .digit-run in
-    c .no-numeral3 .ensures ∙ sym (read-many _ _ _ (d .ensures .0) _ (is-fraction k) _ (omega arith) (λ x y. omega arith))
+    c .no-numeral3 .ensures ∙ sym (ap parsed (read-many _ _ _ (d .ensures .0) _ (is-fraction k) _ (omega arith) (λ x y. omega arith)))
 
 no-numeral-requires-4 : tie.Need-no-numeral-requires-4
 no-numeral-requires-4 c κs = search needs
@@ -76,10 +77,10 @@ returns-4 : tie.Need-returns-4
 returns-4 c =
     let k = c .before .before .before .before .before in
     let d = k .before .before .before .digit-run in
-    c .no-numeral4 .ensures ∙ sym (read-many _ _ _ (d .ensures .0) _ (is-fraction k) _ (omega arith) (λ x y. omega arith))
+    c .no-numeral4 .ensures ∙ sym (ap parsed (read-many _ _ _ (d .ensures .0) _ (is-fraction k) _ (omega arith) (λ x y. omega arith)))
 
-digits-in-requires : tie.Need-digits-in-requires
-digits-in-requires c κs =
+groups-in-requires : tie.Need-groups-in-requires
+groups-in-requires c κs =
     let k = c .before .before .before .before in
     (omega arith, (k .before .before .before .digit-run .ensures, is-fraction k))
 
@@ -87,7 +88,7 @@ returns-5 : tie.Need-returns-5
 returns-5 c =
     let k = c .before .before .before .before .before in
     let d = k .before .before .before .digit-run in
-    rw (c .digits-in .ensures) (sym (read-some _ _ _ (d .ensures .0) _ (is-fraction k) _ (omega arith) (omega arith) (omega arith)))
+    rw (c .groups-in .ensures) (sym (ap parsed (read-some _ _ _ (d .ensures .0) _ (is-fraction k) _ (omega arith) (omega arith) (omega arith))))
 
 pub read-unsigned-spec : {M : Type 1} → statement M
 read-unsigned-spec =
@@ -108,5 +109,5 @@ read-unsigned-spec =
     returns-3
     no-numeral-requires-4
     returns-4
-    digits-in-requires
+    groups-in-requires
     returns-5)
