@@ -40,7 +40,7 @@ more b ps at i h =
     rw (add-one, take-suc (drop at ps) i 0 l, number-snoc, getD-drop)
 
 -- ---- bounds of digits
-one-below : (b x : ℕ) → x < b → Below b (x ∷ [])
+pub one-below : (b x : ℕ) → x < b → Below b (x ∷ [])
 one-below b x h zero = h
 one-below b x h (suc k) = omega arith
 

@@ -8,6 +8,10 @@ use Rattle.groups.specs.Layout.{width, formOf, offset, sizeIn, size, Pla
 use Rattle.groups.specs.Sides.{sidesSize}
 use Rattle.groups.proofs.Sides.{size-sides}
 
+pub width-le : (d : ℕ) → width d ≤ 4
+unfolding width
+width-le d = omega arith
+
 pub packed-sides : (i f : ℕ) → i + f ≤ 65 → size i f ≡ sidesSize i f
 unfolding width
 packed-sides i f h = size-sides Plain i f h

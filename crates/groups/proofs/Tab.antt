@@ -3,10 +3,10 @@
 use mathlib.Core.Path.{_≡_, refl, sym, ap, _∙_, subst}
 use mathlib.Core.Bool.{Bool, true, false}
 use mathlib.Core.Logic.{⊎-elim}
-use mathlib.Core.List.{List}
+use mathlib.Core.List.{List, [], _∷_, map}
 use Prim.Native.Nat.{ℕ, zero, suc, _+_, _<_}
 use native.Mathlib.Nat.{le-of-suc-le-suc, not-suc-le-zero, eq-or-lt-of-le, le-refl, lt-irrefl, le-suc, le-trans}
-use lib.ListN.{length, getD, set, replicate}
+use lib.ListN.{length, getD, take, drop, set, replicate}
 use lib.Seq.{ext-getD, getD-set-same, getD-set-other}
 use borrow.Author.Count.{below-more}
 use lib.Dec.{T}
@@ -36,6 +36,17 @@ pub fill-more : (f : ℕ → ℕ) (xs : List ℕ) (i v : ℕ) → i < length xs 
 fill-more f xs i v l h e =
     below-more (λ k. getD (set xs i v) k 0 ≡ f k) i
     (λ k m. getD-set-other xs i k v 0 (λ q. lt-irrefl i (subst (λ (z : ℕ). z < i) q m)) ∙ h k m) (getD-set-same xs i v 0 l ∙ e)
+
+-- a part of a list, each element mapped
+pub take-map : (g : ℕ → ℕ) (n : ℕ) (xs : List ℕ) → take n (map g xs) ≡ map g (take n xs)
+take-map g zero xs = refl
+take-map g (suc n) [] = refl
+take-map g (suc n) (x ∷ xs) = ap (λ (l : List ℕ). g x ∷ l) (take-map g n xs)
+
+pub drop-map : (g : ℕ → ℕ) (n : ℕ) (xs : List ℕ) → drop n (map g xs) ≡ map g (drop n xs)
+drop-map g zero xs = refl
+drop-map g (suc n) [] = refl
+drop-map g (suc n) (x ∷ xs) = drop-map g n xs
 
 pub all-true : (p : ℕ → Bool) (n : ℕ) → ((k : ℕ) → k < n → p k ≡ true) → all n p ≡ true
 all-true p zero h = refl

@@ -10,22 +10,13 @@ use lib.ListN.{length, take, drop, length-map, length-drop}
 use lib.Seq.{take-append-le, drop-append-le, drop-at, take-take, drop-drop, length-take-le}
 use borrow.Author.Tests.{le-leb, lt-leb, leb-true}
 use Rattle.groups.proofs.Accept.{both-true, is-false}
+use Rattle.groups.proofs.Tab.{take-map, drop-map}
 use Rattle.numeral.specs.Read.{run, wholePart, fractionPart, isText, fewDigits, digitOf, digitsIn, noNumeral, readUnsigned}
 use Rattle.numeral.specs.Course.{fractionAt}
 use Rattle.numeral.specs.declared.reader.Fraction.the-variants.{Places, Other}
 use Rattle.numeral.proofs.Scans.{run-le, no-fraction, a-fraction}
 
 -- ---- a part of a list, after a function is applied to its elements, and of what a list begins with
-take-map : (g : ℕ → ℕ) (n : ℕ) (xs : List ℕ) → take n (map g xs) ≡ map g (take n xs)
-take-map g zero xs = refl
-take-map g (suc n) [] = refl
-take-map g (suc n) (x ∷ xs) = rw (take-map g n xs)
-
-drop-map : (g : ℕ → ℕ) (n : ℕ) (xs : List ℕ) → drop n (map g xs) ≡ map g (drop n xs)
-drop-map g zero xs = refl
-drop-map g (suc n) [] = refl
-drop-map g (suc n) (x ∷ xs) = drop-map g n xs
-
 part-of : (g : ℕ → ℕ) (xs ys : List ℕ) (o n : ℕ) → o + n ≤ length xs → take n (drop o (map g xs ++ ys)) ≡ map g (take n (drop o xs))
 part-of g xs ys o n h =
     let e = length-map xs g in

@@ -16,16 +16,13 @@ use Rattle.groups.specs.Numbers.{number, Below}
 use Rattle.groups.specs.Layout.{formOf}
 use Rattle.groups.specs.Packed.{flip, flipFirst, invert, digitsIn}
 use Rattle.groups.proofs.Marks.{length-flip}
-use Rattle.groups.proofs.Radix.{more, below-append}
+use Rattle.groups.proofs.Radix.{more, one-below, below-append}
+use Rattle.groups.proofs.Tab.{take-map, drop-map}
 use Rattle.groups.proofs.Opened.{number-lt}
 use Rattle.groups.proofs.Caps.{below-or-not}
 use Rattle.reading.specs.Course.{Bytes, flipBy, begins, shown}
 
 -- ---- one byte more
-one-below : (y : ℕ) → y < 256 → Below 256 (y ∷ [])
-one-below y h zero = h
-one-below y h (suc k) = lit< tt
-
 pub none : (bs : List ℕ) (at : ℕ) → Bytes bs at 0 0
 unfolding number
 none bs at = record { is = refl; below = λ k. lit< tt }
@@ -40,7 +37,7 @@ grown bs at w x y h b e l = record { is = i; below = j }
     m = simp length-drop (omega arith)
 
     j : Below 256 (take (w + 1) (drop at bs))
-    j = rw (add-one w, take-suc (drop at bs) w 0 m, getD-drop) (below-append 256 (take w (drop at bs)) (getD bs (at + w) 0 ∷ []) (b .below) (one-below (getD bs (at + w) 0) (rw e at l)))
+    j = rw (add-one w, take-suc (drop at bs) w 0 m, getD-drop) (below-append 256 (take w (drop at bs)) (getD bs (at + w) 0 ∷ []) (b .below) (one-below 256 (getD bs (at + w) 0) (rw e at l)))
 
 pub byte : (bs : List ℕ) (at y : ℕ) → at < length bs → y ≡ getD bs at 0 → y < 256 → Bytes bs at 1 y
 byte bs at y h e l = rw (zero-add y) at (grown bs at 0 0 y (rw add-zero h) (none bs at) (rw add-zero e) l)
@@ -92,16 +89,6 @@ flip-below (b ∷ bs) (suc n) h zero = flip-lt b (h 0)
 flip-below (b ∷ bs) (suc n) h (suc k) = h (suc k)
 
 -- ---- all bits inverted
-drop-map : (f : ℕ → ℕ) (n : ℕ) (xs : List ℕ) → drop n (map f xs) ≡ map f (drop n xs)
-drop-map f zero xs = refl
-drop-map f (suc n) [] = refl
-drop-map f (suc n) (x ∷ xs) = drop-map f n xs
-
-take-map : (f : ℕ → ℕ) (n : ℕ) (xs : List ℕ) → take n (map f xs) ≡ map f (take n xs)
-take-map f zero xs = refl
-take-map f (suc n) [] = refl
-take-map f (suc n) (x ∷ xs) = ap (λ (l : List ℕ). f x ∷ l) (take-map f n xs)
-
 invert-sum : (zs : List ℕ) → Below 256 zs → number 256 (map invert zs) + number 256 zs + 1 ≡ 256 ^ length zs
 unfolding number
 invert-sum [] h = rw pow-zero

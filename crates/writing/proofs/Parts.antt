@@ -20,11 +20,7 @@ use Rattle.groups.proofs.Store.{length-to}
 use Rattle.writing.proofs.Laid.{three}
 use Rattle.writing.proofs.Shade.{digits-shade, run-shade, shaded-append}
 use Rattle.groups.proofs.Sides.{length-run, to-sides}
-use Rattle.groups.proofs.Sizes.{packed-sides}
-
-pub width-le : (d : ℕ) → width d ≤ 4
-unfolding width
-width-le d = omega arith
+use Rattle.groups.proofs.Sizes.{width-le, packed-sides}
 
 -- ---- the places and the room that the three parts have
 pub places : (i f : ℕ) → i + f ≤ 65 → ((leadPlaces i ≤ leadPlaces i + wholes i f) × (leadPlaces i + wholes i f ≤ 9)) × (leadPlaces i + wholes i f < 9)

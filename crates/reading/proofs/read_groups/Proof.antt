@@ -1,7 +1,7 @@
 -- The rest of the integral digits, the whole groups and the rest of the fraction, each tested before it is stored; the first that is out of range decides.
 -- Assumes what the contract requires, and nothing else.
 use denote.Ref.{now}
-use Prim.Native.Nat.{ℕ, _+_, _-_, _*_, _^_, _≤_}
+use Prim.Native.Nat.{ℕ, _+_, _-_, _*_, _^_, _≤_, _<_}
 use mathlib.Core.Path.{_≡_, sym, _∙_, ap}
 use mathlib.Core.List.{List}
 use native.Mathlib.Omega.{arith}
@@ -13,8 +13,8 @@ use Rattle.groups.specs.Layout.{width, formOf}
 use Rattle.groups.specs.Sides.{rest, leadPlaces, wholes}
 use Rattle.groups.specs.Packed.{digitsIn}
 use Rattle.groups.proofs.Places.{power-is}
-use Rattle.groups.proofs.Sizes.{packed-sides}
-use Rattle.groups.proofs.Sides.{fields}
+use Rattle.groups.proofs.Sizes.{width-le, packed-sides}
+use Rattle.groups.proofs.Sides.{Cut, fields}
 use Rattle.reading.proofs.Sided.{leadIn, fourIn, tailIn, lead-over, four-over, tail-over, four-in, tail-in, Filled, filled-lead, filled-more, filled-all}
 use Rattle.reading.proofs.read_groups.Statement.{statement}
 use Rattle.reading.proofs.read_groups.Tie as tie
@@ -30,30 +30,33 @@ abbrev μ-loop : tie.MeasureT-loop
 abbrev Ds : tie.Start Inv-loop μ-loop → List ℕ
 Ds s = digitsIn (formOf (s .args .inverted)) (now (s .args .bytes))
 
-width-le : (d : ℕ) → width d ≤ 4
-unfolding width
-width-le d = omega arith
+-- the sides, field by field
+cut : (s : tie.Start Inv-loop μ-loop) → Cut (s .args .intg) (s .args .frac) (s .args .s)
+cut s = fields (s .args .intg) (s .args .frac) (s .args .s) (s .pre .0)
+
+last-small : (s : tie.Start Inv-loop μ-loop) → s .args .s .last < 9
+last-small s = let f = cut s in let h = s .pre .1 .0 in omega arith
 
 -- what the integral rest is, and its bound
 is-lead : (c : tie.After-part-at Inv-loop μ-loop) → let s = c .before .before in c .part-at .result ≡ leadIn (s .args .intg) (s .args .frac) (Ds s)
 is-lead c =
     let s = c .before .before in
     let a = s .args in
-    let f = fields (a .intg) (a .frac) (a .s) (s .pre .0) in
+    let f = cut s in
     c .part-at .ensures ∙ ap (λ (w : ℕ). number 256 (take w (Ds s))) (f .0 .1)
 
 is-power : (c : tie.After-power Inv-loop μ-loop) → c .power .result ≡ 10 ^ rest (c .before .before .before .args .intg)
 is-power c =
     let s = c .before .before .before in
     let a = s .args in
-    let f = fields (a .intg) (a .frac) (a .s) (s .pre .0) in
+    let f = cut s in
     c .power .ensures ∙ rw (f .0 .0) (power-is (rest (a .intg)) (omega arith))
 
 part-at-requires : tie.Need-part-at-requires Inv-loop μ-loop
 part-at-requires c κs =
     let s = c .before in
     let a = s .args in
-    let f = fields (a .intg) (a .frac) (a .s) (s .pre .0) in
+    let f = cut s in
     let z = packed-sides (a .intg) (a .frac) (s .pre .1 .0) in
     let w = width-le (rest (a .intg)) in
     omega arith
@@ -78,7 +81,7 @@ loop-holds : tie.Need-loop-holds Inv-loop μ-loop
 loop-holds c =
     let s = c .before .before .before .before in
     let a = s .args in
-    let f = fields (a .intg) (a .frac) (a .s) (s .pre .0) in
+    let f = cut s in
     let p = c .before in
     let l = filled-lead (a .intg) (a .frac) (Ds s) (a .inverted) _ (is-lead (p .before)) (rw (is-power p) at (c .if1 .left)) in
     (omega arith, (simp length-set, (omega arith, rw (f .1 .0 .0) l)))
@@ -95,7 +98,7 @@ four-at-requires : tie.Need-four-at-requires Inv-loop μ-loop
 four-at-requires c κs =
     let s = c .before .before .before .before .before .before in
     let a = s .args in
-    let f = fields (a .intg) (a .frac) (a .s) (s .pre .0) in
+    let f = cut s in
     let z = packed-sides (a .intg) (a .frac) (s .pre .1 .0) in
     omega arith
 
@@ -106,53 +109,43 @@ returns-2 : tie.Need-returns-2 Inv-loop μ-loop
 returns-2 c =
     let s = c .before .before .before .before .before .before .before .before .before in
     let a = s .args in
-    let f = fields (a .intg) (a .frac) (a .s) (s .pre .0) in
+    let f = cut s in
     let p = c .before .before in
     let k = c .before .before .before .before .loop .k in
     c .no-groups2 .ensures
     ∙ sym (four-over (a .intg) (a .frac) (Ds s) (s .pre .1 .0) (a .inverted) (k - leadPlaces (a .intg)) (omega arith) (rw (is-four p) at (c .before .if2 .taken)))
 
-mul-gs : tie.Need-mul-gs Inv-loop μ-loop
-mul-gs c =
+-- the loop's place has a whole group, whose four bytes are there
+turn : (c : tie.Else2 Inv-loop μ-loop)
+    → let s = c .before .before .before .before .before .before .before .before in let l = c .before .before .before .loop in
+    ((l .k < leadPlaces (s .args .intg) + wholes (s .args .intg) (s .args .frac)) × (l .k < 9)) × (l .at + 4 ≤ length (now (s .args .bytes)))
+turn c =
     let s = c .before .before .before .before .before .before .before .before in
-    let a = s .args in
-    let f = fields (a .intg) (a .frac) (a .s) (s .pre .0) in
-    omega arith
+    let f = cut s in
+    let h = last-small s in
+    let z = packed-sides (s .args .intg) (s .args .frac) (s .pre .1 .0) in
+    ((omega arith, omega arith), omega arith)
+
+mul-gs : tie.Need-mul-gs Inv-loop μ-loop
+mul-gs c = let t = turn c in omega arith
 
 array-write-gs-2 : tie.Need-array-write-gs-2 Inv-loop μ-loop
-array-write-gs-2 c =
-    let s = c .before .before .before .before .before .before .before .before in
-    let a = s .args in
-    let f = fields (a .intg) (a .frac) (a .s) (s .pre .0) in
-    omega arith
+array-write-gs-2 c = let t = turn c in omega arith
 
 add-at : tie.Need-add-at Inv-loop μ-loop
-add-at c =
-    let s = c .before .before .before .before .before .before .before .before in
-    let a = s .args in
-    let f = fields (a .intg) (a .frac) (a .s) (s .pre .0) in
-    let z = packed-sides (a .intg) (a .frac) (s .pre .1 .0) in
-    omega arith
+add-at c = let t = turn c in omega arith
 
 add-k : tie.Need-add-k Inv-loop μ-loop
-add-k c =
-    let s = c .before .before .before .before .before .before .before .before in
-    let a = s .args in
-    let f = fields (a .intg) (a .frac) (a .s) (s .pre .0) in
-    omega arith
+add-k c = let t = turn c in omega arith
 
 loop-less : tie.Need-loop-less Inv-loop μ-loop
-loop-less c =
-    let s = c .before .before .before .before .before .before .before .before in
-    let a = s .args in
-    let f = fields (a .intg) (a .frac) (a .s) (s .pre .0) in
-    omega arith
+loop-less c = let t = turn c in omega arith
 
 loop-again : tie.Need-loop-again Inv-loop μ-loop
 loop-again c =
     let s = c .before .before .before .before .before .before .before .before in
     let a = s .args in
-    let f = fields (a .intg) (a .frac) (a .s) (s .pre .0) in
+    let f = cut s in
     let p = c .before in
     let l = c .before .before .before .loop in
     let i = a .intg in
@@ -171,7 +164,7 @@ at-last : (c : tie.After-part-at2 Inv-loop μ-loop) → let s = c .before .befor
 at-last c =
     let s = c .before .before .before .before .before .before .before in
     let a = s .args in
-    let f = fields (a .intg) (a .frac) (a .s) (s .pre .0) in
+    let f = cut s in
     let h = c .before .loop-test .left in
     omega arith
 
@@ -179,7 +172,7 @@ is-tail : (c : tie.After-scaled Inv-loop μ-loop) → let s = c .before .before 
 is-tail c =
     let s = c .before .before .before .before .before .before .before .before in
     let a = s .args in
-    let f = fields (a .intg) (a .frac) (a .s) (s .pre .0) in
+    let f = cut s in
     let l = c .before .before .before .loop in
     let e : l .at ≡ width (rest (a .intg)) + 4 * wholes (a .intg) (a .frac) = let k = at-last (c .before) in omega arith in
     c .scaled .ensures ∙ rw (c .before .part-at2 .ensures, f .1 .1 .1 .0, f .1 .1 .1 .1, e)
@@ -188,7 +181,7 @@ part-at-requires-2 : tie.Need-part-at-requires-2 Inv-loop μ-loop
 part-at-requires-2 c κs =
     let s = c .before .before .before .before .before .before in
     let a = s .args in
-    let f = fields (a .intg) (a .frac) (a .s) (s .pre .0) in
+    let f = cut s in
     let z = packed-sides (a .intg) (a .frac) (s .pre .1 .0) in
     let w = width-le (rest (a .frac)) in
     let h = c .loop-test .left in
@@ -198,7 +191,7 @@ scaled-requires : tie.Need-scaled-requires Inv-loop μ-loop
 scaled-requires c κs =
     let s = c .before .before .before .before .before .before .before in
     let a = s .args in
-    let f = fields (a .intg) (a .frac) (a .s) (s .pre .0) in
+    let f = cut s in
     omega arith
 
 no-groups-requires-3 : tie.Need-no-groups-requires-3 Inv-loop μ-loop
@@ -217,22 +210,22 @@ low-requires c κs = omega arith
 mul-gs-2 : tie.Need-mul-gs-2 Inv-loop μ-loop
 mul-gs-2 c =
     let s = c .before .before .before .before .before .before .before .before .before .before in
-    let a = s .args in
-    let f = fields (a .intg) (a .frac) (a .s) (s .pre .0) in
+    let f = cut s in
+    let h = last-small s in
     omega arith
 
 array-write-gs-3 : tie.Need-array-write-gs-3 Inv-loop μ-loop
 array-write-gs-3 c =
     let s = c .before .before .before .before .before .before .before .before .before .before in
-    let a = s .args in
-    let f = fields (a .intg) (a .frac) (a .s) (s .pre .0) in
+    let f = cut s in
+    let h = last-small s in
     omega arith
 
 returns-4 : tie.Need-returns-4 Inv-loop μ-loop
 returns-4 c =
     let s = c .before .before .before .before .before .before .before .before .before .before in
     let a = s .args in
-    let f = fields (a .intg) (a .frac) (a .s) (s .pre .0) in
+    let f = cut s in
     let p = c .before .before in
     let l = p .before .before .before .loop in
     let k = at-last (p .before) in

@@ -8,8 +8,9 @@ use lib.ListN.{length}
 use Rattle.groups.specs.Sides.{rest, leadPlaces, wholes}
 use Rattle.groups.proofs.Accept.{well-digits}
 use Rattle.groups.proofs.Caps.{well-groups}
+use Rattle.groups.proofs.Sizes.{width-le}
 use Rattle.groups.proofs.Sides.{fields}
-use Rattle.writing.proofs.Parts.{width-le, places, packed-room, packed-all}
+use Rattle.writing.proofs.Parts.{places, packed-room, packed-all}
 use borrow.Author.Needs.{needs}
 use Rattle.writing.proofs.put_packed.Statement.{statement}
 use Rattle.writing.proofs.put_packed.Tie as tie
