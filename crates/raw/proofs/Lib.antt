@@ -1,5 +1,4 @@
 pub mod Values
 pub mod Parts
 pub mod Bounds
-pub mod Sign
 pub mod Examples

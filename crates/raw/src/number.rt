@@ -1,11 +1,7 @@
 // Little-endian numbers. A byte that is not there, or stands at the end or past it, counts as 0.
 ghost use mathlib.Core.Path.{_≡_};
-ghost use Prim.Native.Nat.{suc, _+_, _-_, _^_, _≤_, _<_, min};
-ghost use lib.Dec.{ltb};
+ghost use Prim.Native.Nat.{_+_, _-_, _^_, _≤_, _<_, min};
 ghost use lib.ListN.{length, take, drop};
-ghost use lib.IntN.{pos, negsuc};
-ghost use mir.Syntax.{w16, w32, w64};
-ghost use mir.Val.{sel, toZ};
 ghost use Rattle.raw.specs.Numbers.{value, le};
 
 fn wide(x: u8) -> u64
@@ -100,34 +96,4 @@ pub fn u64_at(doc: &[u8], at: usize, end: usize) -> u64
         return whole64(doc, at);
     }
     partial(doc, at, end, 8)
-}
-
-// The signed number of a pattern, where the upper half of the patterns stands for the numbers below 0.
-fn signed(n: u64, half: u64) -> i64
-    requires { ⌜ (half ≤ 9223372036854775808) × (n < half + half) ⌝ }
-    ensures { λ r. ⌜ r ≡ sel (ltb n half) (pos n) (negsuc (half + half - suc n)) ⌝ }
-{
-    if n < half {
-        return n as i64;
-    }
-    -1 - (half - 1 - (n - half)) as i64
-}
-
-// The same as signed numbers.
-pub fn i16_at(doc: &[u8], at: usize, end: usize) -> i64
-    ensures { λ r. ⌜ r ≡ toZ w16 (le 2 (now (doc .entry)) at end) ⌝ }
-{
-    signed(u16_at(doc, at, end), 32768)
-}
-
-pub fn i32_at(doc: &[u8], at: usize, end: usize) -> i64
-    ensures { λ r. ⌜ r ≡ toZ w32 (le 4 (now (doc .entry)) at end) ⌝ }
-{
-    signed(u32_at(doc, at, end), 2147483648)
-}
-
-pub fn i64_at(doc: &[u8], at: usize, end: usize) -> i64
-    ensures { λ r. ⌜ r ≡ toZ w64 (le 8 (now (doc .entry)) at end) ⌝ }
-{
-    signed(u64_at(doc, at, end), 9223372036854775808)
 }

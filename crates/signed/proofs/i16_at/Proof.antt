@@ -2,9 +2,9 @@
 -- Assumes nothing.
 use mir.Syntax.{w16}
 use borrow.Author.Needs.{needs}
-use Rattle.raw.proofs.Sign.{handed}
-use Rattle.raw.proofs.number.i16_at.Statement.{statement}
-use Rattle.raw.proofs.number.i16_at.Tie as tie
+use Rattle.signed.proofs.Sign.{handed}
+use Rattle.signed.proofs.i16_at.Statement.{statement}
+use Rattle.signed.proofs.i16_at.Tie as tie
 
 u16-at-requires : tie.Need-u16-at-requires
 u16-at-requires c κs = search needs

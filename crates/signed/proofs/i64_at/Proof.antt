@@ -2,9 +2,9 @@
 -- Assumes nothing.
 use mir.Syntax.{w64}
 use borrow.Author.Needs.{needs}
-use Rattle.raw.proofs.Sign.{handed}
-use Rattle.raw.proofs.number.i64_at.Statement.{statement}
-use Rattle.raw.proofs.number.i64_at.Tie as tie
+use Rattle.signed.proofs.Sign.{handed}
+use Rattle.signed.proofs.i64_at.Statement.{statement}
+use Rattle.signed.proofs.i64_at.Tie as tie
 
 u64-at-requires : tie.Need-u64-at-requires
 u64-at-requires c κs = search needs

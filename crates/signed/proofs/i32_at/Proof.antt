@@ -2,9 +2,9 @@
 -- Assumes nothing.
 use mir.Syntax.{w32}
 use borrow.Author.Needs.{needs}
-use Rattle.raw.proofs.Sign.{handed}
-use Rattle.raw.proofs.number.i32_at.Statement.{statement}
-use Rattle.raw.proofs.number.i32_at.Tie as tie
+use Rattle.signed.proofs.Sign.{handed}
+use Rattle.signed.proofs.i32_at.Statement.{statement}
+use Rattle.signed.proofs.i32_at.Tie as tie
 
 u32-at-requires : tie.Need-u32-at-requires
 u32-at-requires c κs = search needs

@@ -1,9 +1,9 @@
 -- The upper half of the patterns counts down from -1, so no step leaves the 64 bits.
 -- Assumes nothing.
 use borrow.Author.Needs.{needs}
-use Rattle.raw.proofs.Sign.{lower, upper, upper-fits}
-use Rattle.raw.proofs.number.signed.Statement.{statement}
-use Rattle.raw.proofs.number.signed.Tie as tie
+use Rattle.signed.proofs.Sign.{lower, upper, upper-fits}
+use Rattle.signed.proofs.signed.Statement.{statement}
+use Rattle.signed.proofs.signed.Tie as tie
 
 cast-result : tie.Need-cast-result
 cast-result c = search needs
