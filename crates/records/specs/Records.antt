@@ -4,14 +4,12 @@
 -- Assumes nothing.
 use Prim.Native.Nat.{ℕ, _+_}
 use mathlib.Core.Bool.{false, cond}
-use mathlib.Core.List.{List, [], _∷_}
+use mathlib.Core.List.{List, _∷_}
 use lib.Dec.{ltb, eqb}
 use lib.ListN.{length, getD}
 use Rattle.refusal.specs.Told.{Told, answer, refusal}
 use Rattle.lent.specs.Layout.{flag, low}
 use Rattle.groups.specs.Numbers.{tab}
-use Rattle.groups.specs.declared.Counted.{Counted}
-use Rattle.groups.specs.declared.Counted.the-variants.{Bytes, Refused}
 use Rattle.groups.specs.Read.{zeros}
 use Rattle.decimal.specs.declared.Decimal.{Decimal}
 use Rattle.decimal.specs.declared.Answer.{Answer}
@@ -35,8 +33,3 @@ recordNumbers d = low (d .intg) ∷ low (d .frac) ∷ cond (d .sign) 1 0 ∷ d .
 -- a decimal that is answered, or its refusal
 unfoldable pub recordTold : Answer → Told
 recordTold a = cond (eqb (a .refusal) 0) (answer (recordNumbers (a .decimal))) (refusal (a .refusal))
-
--- a count of bytes or characters, or its refusal
-abbrev pub countedTold : Counted → Told
-countedTold (Bytes n) = answer (low n ∷ [])
-countedTold (Refused n) = refusal n

@@ -1,19 +1,15 @@
-// Decimals as twelve numbers, and answers about them as numbers in a lent slice, for programs in other languages. Each function that answers returns a refusal's
-// number, or 0, and stores the answer's numbers at the front; a slice that is too short is refused by 25, and a refusal changes nothing.
+// Decimals as twelve numbers in a lent slice, for programs in other languages. What stores one returns a refusal's number, or 0, and stores the numbers at the
+// front; a slice that is too short is refused by 25, and a refusal changes nothing.
 use decimal::Answer;
-use decimal::Compared;
-use decimal::Counted;
 use decimal::Decimal;
 ghost use mathlib.Core.Path.{_≡_};
 ghost use mathlib.Core.Bool.{cond};
-ghost use mathlib.Core.List.{[], _∷_};
 ghost use Prim.Native.Nat.{_+_, _≤_};
 ghost use lib.ListN.{length, getD};
 ghost use lib.Seq.{paste};
 ghost use Rattle.groups.specs.Numbers.{tab};
-ghost use Rattle.order.specs.Value.{told};
 ghost use Rattle.lent.specs.Layout.{laid, Relays};
-ghost use Rattle.records.specs.Records.{decimalBy, recordNumbers, recordTold, countedTold};
+ghost use Rattle.records.specs.Records.{decimalBy, recordNumbers, recordTold};
 
 fn widen(n: u8) -> u32
     ensures { λ r. ⌜ r ≡ n ⌝ }
@@ -103,43 +99,4 @@ pub fn put_answer(answer: &mut [u32], a: Answer) -> u32
     let d = a.decimal;
     put_decimal(answer, d);
     0
-}
-
-// A count of bytes or characters, or a refusal: one number.
-pub fn put_counted(answer: &mut [u32], c: Counted) -> u32
-    ensures { λ r. ⌜ Relays 1 (countedTold c) (now (answer .entry)) r (now (answer .exit)) ⌝ }
-{
-    if answer.len() < 1 {
-        return 25;
-    }
-    match c {
-        Counted::Bytes(n) => {
-            answer[0] = (n % 4294967296) as u32;
-            0
-        }
-        Counted::Refused(n) => widen(n),
-    }
-}
-
-fn put_order(answer: &mut [u32], n: u32) -> u32
-    requires { ⌜ 1 ≤ length (now answer) ⌝ }
-    ensures { λ r. ⌜ (r ≡ 0) × (now (answer .exit) ≡ laid (n ∷ []) (now (answer .entry))) ⌝ }
-{
-    answer[0] = n;
-    0
-}
-
-// The order of two decimals, 0 less, 1 equal, 2 greater, or a refusal: one number.
-pub fn put_compared(answer: &mut [u32], c: Compared) -> u32
-    ensures { λ r. ⌜ Relays 1 (told c) (now (answer .entry)) r (now (answer .exit)) ⌝ }
-{
-    if answer.len() < 1 {
-        return 25;
-    }
-    match c {
-        Compared::Less => put_order(answer, 0),
-        Compared::Equal => put_order(answer, 1),
-        Compared::Greater => put_order(answer, 2),
-        Compared::Refused(n) => widen(n),
-    }
 }

@@ -25,7 +25,8 @@ use Rattle.decimal.specs.declared.Answer.{Answer}
 use Rattle.decimal_laws.proofs.Lengths.{printed-length}
 use Rattle.lent.specs.Layout.{low}
 use Rattle.lent.proofs.Puts.{low-small, changed}
-use Rattle.records.specs.Records.{decimalIn, noDigits, decimalBy, recordNumbers, recordTold, countedTold}
+use Rattle.records.specs.Records.{decimalIn, noDigits, decimalBy, recordNumbers, recordTold}
+use Rattle.small_records.specs.SmallRecords.{countedTold}
 use Rattle.relay.specs.Decimals.{decimalNumbers, decimalTold, held, writtenTold, writtenLeaves, printedTold, printedLeaves, orderTold}
 
 -- ---- a decimal that is answered

@@ -4,8 +4,8 @@ use mathlib.Core.Path.{refl, sym, ap}
 use Rattle.order.specs.Value.{told}
 use Rattle.lent.proofs.Puts.{too-short, stores, stores-none}
 use borrow.Author.Needs.{needs}
-use Rattle.records.proofs.put_compared.Statement.{statement}
-use Rattle.records.proofs.put_compared.Tie as tie
+use Rattle.small_records.proofs.put_compared.Statement.{statement}
+use Rattle.small_records.proofs.put_compared.Tie as tie
 
 returns : tie.Need-returns
 returns c = too-short 1 _ (c .if1 .taken)

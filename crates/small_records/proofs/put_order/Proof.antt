@@ -5,8 +5,8 @@ use mathlib.Core.Path.{refl}
 use mathlib.Core.List.{[], _∷_}
 use Rattle.lent.proofs.Puts.{front}
 use borrow.Author.Needs.{needs}
-use Rattle.records.proofs.put_order.Statement.{statement}
-use Rattle.records.proofs.put_order.Tie as tie
+use Rattle.small_records.proofs.put_order.Statement.{statement}
+use Rattle.small_records.proofs.put_order.Tie as tie
 
 slice-write-answer : tie.Need-slice-write-answer
 slice-write-answer c = search needs

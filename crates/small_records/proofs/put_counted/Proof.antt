@@ -5,10 +5,10 @@ use mathlib.Core.Path.{refl, sym, ap}
 use mathlib.Core.List.{[], _∷_}
 use Rattle.lent.specs.Layout.{low}
 use Rattle.lent.proofs.Puts.{front, too-short, stores, stores-none}
-use Rattle.records.specs.Records.{countedTold}
+use Rattle.small_records.specs.SmallRecords.{countedTold}
 use borrow.Author.Needs.{needs}
-use Rattle.records.proofs.put_counted.Statement.{statement}
-use Rattle.records.proofs.put_counted.Tie as tie
+use Rattle.small_records.proofs.put_counted.Statement.{statement}
+use Rattle.small_records.proofs.put_counted.Tie as tie
 
 returns : tie.Need-returns
 returns c = too-short 1 _ (c .if1 .taken)
