@@ -19,8 +19,8 @@ ghost use Rattle.decimal.specs.Text.{parseText};
 ghost use Rattle.lent.specs.Layout.{Relays, beside, flag};
 ghost use Rattle.rows.specs.Rows.{valueTold};
 ghost use Rattle.small_rows.specs.SmallRows.{keyTold, countTold};
-ghost use Rattle.relay.specs.Documents.{viewBy, walkTold, walkLeaves};
-ghost use Rattle.relay.specs.Decimals.{decimalTold, writtenTold, writtenLeaves, printedTold, printedLeaves, orderTold};
+ghost use Rattle.surface.specs.Documents.{viewBy, walkTold, walkLeaves};
+ghost use Rattle.surface.specs.Decimals.{decimalTold, writtenTold, writtenLeaves, printedTold, printedLeaves, orderTold};
 
 // A view by its numbers: the type code says of what kind it is.
 fn view_by(code: u32, start: u32, size: u32, count: u32) -> View

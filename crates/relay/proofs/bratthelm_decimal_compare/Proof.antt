@@ -2,7 +2,7 @@
 -- Assumes nothing.
 use denote.Ref.{now}
 use Rattle.lent.proofs.Puts.{same-told}
-use Rattle.relay.proofs.Twelve.{order-told}
+use Rattle.surface.proofs.Twelve.{order-told}
 use Rattle.relay.proofs.bratthelm_decimal_compare.Statement.{statement}
 use Rattle.relay.proofs.bratthelm_decimal_compare.Tie as tie
 

@@ -3,7 +3,7 @@
 use denote.Ref.{now}
 use Rattle.decimal_laws.proofs.Formed.{parse-formed}
 use Rattle.lent.proofs.Puts.{same-told}
-use Rattle.relay.proofs.Twelve.{answer-told}
+use Rattle.surface.proofs.Twelve.{answer-told}
 use Rattle.relay.proofs.bratthelm_decimal_parse.Statement.{statement}
 use Rattle.relay.proofs.bratthelm_decimal_parse.Tie as tie
 

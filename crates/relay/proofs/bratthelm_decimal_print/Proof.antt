@@ -2,9 +2,9 @@
 -- Assumes nothing.
 use denote.Ref.{now}
 use mathlib.Core.Path.{refl}
-use Rattle.relay.specs.Decimals.{printedLeaves}
+use Rattle.surface.specs.Decimals.{printedLeaves}
 use Rattle.lent.proofs.Puts.{too-short, same-told, as-it-was}
-use Rattle.relay.proofs.Twelve.{printed-told, printed-left}
+use Rattle.surface.proofs.Twelve.{printed-told, printed-left}
 use borrow.Author.Needs.{needs}
 use Rattle.relay.proofs.bratthelm_decimal_print.Statement.{statement}
 use Rattle.relay.proofs.bratthelm_decimal_print.Tie as tie

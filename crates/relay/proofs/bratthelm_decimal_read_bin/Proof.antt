@@ -4,7 +4,7 @@ use denote.Ref.{now}
 use Rattle.decimal_laws.proofs.Formed.{read-formed}
 use Rattle.lent.specs.Layout.{flag}
 use Rattle.lent.proofs.Puts.{same-told}
-use Rattle.relay.proofs.Twelve.{answer-told}
+use Rattle.surface.proofs.Twelve.{answer-told}
 use Rattle.relay.proofs.bratthelm_decimal_read_bin.Statement.{statement}
 use Rattle.relay.proofs.bratthelm_decimal_read_bin.Tie as tie
 

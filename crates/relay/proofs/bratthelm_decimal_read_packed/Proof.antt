@@ -4,7 +4,7 @@ use denote.Ref.{now}
 use Rattle.decimal_laws.proofs.Formed.{packed-formed}
 use Rattle.lent.specs.Layout.{flag}
 use Rattle.lent.proofs.Puts.{same-told}
-use Rattle.relay.proofs.Twelve.{answer-told}
+use Rattle.surface.proofs.Twelve.{answer-told}
 use Rattle.relay.proofs.bratthelm_decimal_read_packed.Statement.{statement}
 use Rattle.relay.proofs.bratthelm_decimal_read_packed.Tie as tie
 

@@ -2,9 +2,9 @@
 -- Assumes nothing.
 use denote.Ref.{now}
 use mathlib.Core.Path.{refl}
-use Rattle.relay.specs.Decimals.{writtenLeaves}
+use Rattle.surface.specs.Decimals.{writtenLeaves}
 use Rattle.lent.proofs.Puts.{too-short, same-told, as-it-was}
-use Rattle.relay.proofs.Twelve.{written-told, written-left}
+use Rattle.surface.proofs.Twelve.{written-told, written-left}
 use borrow.Author.Needs.{needs}
 use Rattle.relay.proofs.bratthelm_decimal_write_bin.Statement.{statement}
 use Rattle.relay.proofs.bratthelm_decimal_write_bin.Tie as tie

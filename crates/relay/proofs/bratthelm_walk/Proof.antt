@@ -2,7 +2,7 @@
 -- Assumes nothing.
 use denote.Ref.{now}
 use mathlib.Core.Path.{refl}
-use Rattle.relay.proofs.Documents.{walk-told, walked}
+use Rattle.surface.proofs.Documents.{walk-told, walked}
 use Rattle.lent.proofs.Puts.{too-short, same-told, as-it-was, changed}
 use borrow.Author.Needs.{needs}
 use Rattle.relay.proofs.bratthelm_walk.Statement.{statement}

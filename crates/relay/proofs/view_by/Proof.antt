@@ -1,8 +1,8 @@
 -- The test is the definition's, and the kind is made of the code as there.
 -- Assumes nothing.
 use mathlib.Core.Path.{refl}
-use Rattle.relay.specs.Documents.{kindBy}
-use Rattle.relay.proofs.Documents.{no-kind, a-kind}
+use Rattle.surface.specs.Documents.{kindBy}
+use Rattle.surface.proofs.Documents.{no-kind, a-kind}
 use Rattle.relay.proofs.view_by.Statement.{statement}
 use Rattle.relay.proofs.view_by.Tie as tie
 

@@ -22,7 +22,7 @@ use Rattle.value.specs.declared.View.{View}
 use Rattle.lent.specs.Layout.{low}
 use Rattle.lent.proofs.Puts.{low-small}
 use Rattle.small_rows.specs.SmallRows.{walkedTold}
-use Rattle.relay.specs.Documents.{kindBy, nowhere, viewBy, endTold, walkTold, walkLeaves}
+use Rattle.surface.specs.Documents.{kindBy, nowhere, viewBy, endTold, walkTold, walkLeaves}
 
 -- ---- a view by its numbers
 module _ (c start size count : ℕ) where

@@ -27,7 +27,7 @@ use Rattle.lent.specs.Layout.{low}
 use Rattle.lent.proofs.Puts.{low-small, changed}
 use Rattle.records.specs.Records.{decimalIn, noDigits, decimalBy, recordNumbers, recordTold}
 use Rattle.small_records.specs.SmallRecords.{countedTold}
-use Rattle.relay.specs.Decimals.{decimalNumbers, decimalTold, held, writtenTold, writtenLeaves, printedTold, printedLeaves, orderTold}
+use Rattle.surface.specs.Decimals.{decimalNumbers, decimalTold, held, writtenTold, writtenLeaves, printedTold, printedLeaves, orderTold}
 
 -- ---- a decimal that is answered
 numbers-whole : (d : Decimal) → isWell d ≡ true → recordNumbers d ≡ decimalNumbers d
