@@ -5,7 +5,7 @@ use asked::Form;
 use document_answers::Over;
 use output::put;
 use output::put_what;
-use request::Taken;
+use hex::Taken;
 
 // ---- the answer, once all words of the line are read
 

@@ -1,6 +1,6 @@
 // What a line asks, and its words.
 use request::Parsed;
-use request::Taken;
+use hex::Taken;
 
 // What is asked.
 pub enum Asked {
@@ -143,7 +143,7 @@ fn number_in(line: &[u8], from: usize, end: usize) -> Parsed {
 pub fn bytes_in(line: &[u8], from: usize, end: usize, room: &mut [u8]) -> Taken {
     if from <= end {
         if end <= line.len() {
-            return request::bytes(&line[from..end], room);
+            return hex::bytes(&line[from..end], room);
         }
     }
     Taken::Nothing

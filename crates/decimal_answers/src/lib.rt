@@ -10,7 +10,7 @@ use opaque::DecimalPart;
 use output::put;
 use output::put_refused;
 use output::put_what;
-use request::Taken;
+use hex::Taken;
 
 // Precision, scale, and whether the precision is kept.
 pub fn put_bin(out: &mut [u8], at: usize, n: [u32; 24], bytes: &[u8]) -> usize {

@@ -1,4 +1,2 @@
 pub mod Scan
 pub mod Value
-pub mod Pairs
-pub mod Room

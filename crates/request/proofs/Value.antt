@@ -10,8 +10,7 @@ use native.Mathlib.Omega.{arith}
 use lib.Dec.{ltb}
 use lib.ListN.{length, getD, drop, drop-of-length-le}
 use lib.Seq.{drop-cons}
-use borrow.Author.Tests.{lt-ltb, le-ltb}
-use Rattle.request.specs.Test.{isIn}
+use borrow.Author.Tests.{lt-ltb, le-ltb, le-leb, lt-leb}
 use Rattle.request.specs.Number.{areDigits, valueFrom, below, numberFrom, numberOf}
 use Rattle.request.specs.declared.Parsed.{Parsed}
 use Rattle.request.specs.declared.Parsed.the-variants.{Number as Is, Nothing}
@@ -47,11 +46,16 @@ module _ (t : List ℕ) (at v : ℕ) where
   unfolding numberFrom areDigits valueFrom
   number-end h l = rw (drop-of-length-le t h) (simp (lt-ltb _ _ l))
 
-  pub number-more : at < length t → isIn (getD t at 0) 48 57 ≡ true
+  -- at a digit it goes on, below '0' and above '9' it is none
+  pub number-more : at < length t → 48 ≤ getD t at 0 → getD t at 0 ≤ 57
       → numberFrom v (drop at t) ≡ numberFrom (10 * v + (getD t at 0 - 48)) (drop (at + 1) t)
   unfolding numberFrom areDigits valueFrom
-  number-more h e = rw (drop-cons t at 0 h) (simp (e, add-one))
+  number-more h low high = rw (drop-cons t at 0 h) (simp (le-leb 48 (getD t at 0) low, le-leb (getD t at 0) 57 high, add-one))
 
-  pub number-stop : at < length t → isIn (getD t at 0) 48 57 ≡ false → numberFrom v (drop at t) ≡ Nothing
+  pub number-below : at < length t → getD t at 0 < 48 → numberFrom v (drop at t) ≡ Nothing
   unfolding numberFrom areDigits
-  number-stop h e = rw (drop-cons t at 0 h) (simp e)
+  number-below h low = rw (drop-cons t at 0 h) (simp (lt-leb 48 (getD t at 0) low))
+
+  pub number-above : at < length t → 48 ≤ getD t at 0 → 57 < getD t at 0 → numberFrom v (drop at t) ≡ Nothing
+  unfolding numberFrom areDigits
+  number-above h low high = rw (drop-cons t at 0 h) (simp (le-leb 48 (getD t at 0) low, lt-leb (getD t at 0) 57 high))

@@ -1,4 +1,3 @@
 pub mod Test
 pub mod Find
 pub mod Number
-pub mod Hex

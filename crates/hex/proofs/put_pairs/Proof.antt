@@ -7,11 +7,11 @@ use mathlib.Core.Bool.{true}
 use mathlib.Core.List.{_++_}
 use native.Mathlib.Omega.{arith}
 use lib.ListN.{length, take, drop, length-set}
-use Rattle.request.specs.Hex.{arePairs, pairs}
-use Rattle.request.proofs.Pairs.{not-odd, first-digit, second-digit, pairs-behind, bytes-end, bytes-more, written-more, kept-more, all-written}
+use Rattle.hex.specs.Hex.{arePairs, pairs}
+use Rattle.hex.proofs.Pairs.{not-odd, first-digit, second-digit, pairs-behind, bytes-end, bytes-more, written-more, kept-more, all-written}
 use borrow.Author.Needs.{needs}
-use Rattle.request.proofs.hex.put_pairs.Statement.{statement}
-use Rattle.request.proofs.hex.put_pairs.Tie as tie
+use Rattle.hex.proofs.put_pairs.Statement.{statement}
+use Rattle.hex.proofs.put_pairs.Tie as tie
 
 abbrev Inv-loop : tie.InvT-loop
 Inv-loop text out₀ at₀ k₀ out at k = (arePairs (drop at text) ≡ true) × ((k + length (pairs (drop at text)) ≡ length (pairs text)) × ((take k out ++ pairs (drop at text) ≡ pairs text) × ((drop k out ≡ drop k out₀) × ((length out ≡ length out₀) × (at ≤ length text)))))

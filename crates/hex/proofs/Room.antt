@@ -7,9 +7,9 @@ use mathlib.Core.List.{List, [], _∷_, _++_}
 use lib.Dec.{T}
 use lib.ListN.{length, drop}
 use borrow.Author.Tests.{le-leb, lt-leb}
-use Rattle.request.specs.Hex.{arePairs, pairs, isHex, isTaken, bytesOf, bytesLeave}
-use Rattle.request.specs.declared.Taken.the-variants.{Bytes as Count, Nothing}
-use Rattle.request.proofs.Pairs.{half}
+use Rattle.hex.specs.Hex.{arePairs, pairs, isHex, isTaken, bytesOf, bytesLeave}
+use Rattle.hex.specs.declared.Taken.the-variants.{Bytes as Count, Nothing}
+use Rattle.hex.proofs.Pairs.{half}
 
 -- more than one character
 pub hex-pairs : (t : List ℕ) → isHex t ≡ true → (length t ≡ 1 → ⊥) → (arePairs t ≡ true) × (2 * length (pairs t) ≡ length t)

@@ -10,8 +10,8 @@ use lib.Dec.{T, ltb, eqb}
 use lib.ListN.{length, getD, take, drop, set, length-drop, drop-of-length-le, take-append-drop}
 use lib.Seq.{drop-cons, drop-drop, take-suc-set, drop-set-lt}
 use borrow.Author.Tests.{ltb-true, ltb-false, lt-ltb, le-ltb}
 use Rattle.request.specs.Test.{both, isIn}
-use Rattle.request.specs.Hex.{digit, arePairs, pairs, isHex}
+use Rattle.hex.specs.Hex.{digit, arePairs, pairs, isHex}
 
 pub both-true : (a b : Bool) → both a b ≡ true → (a ≡ true) × (b ≡ true)
 both-true true b e = (refl, e)

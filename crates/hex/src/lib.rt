@@ -1,12 +1,24 @@
-// Hexadecimal digits, two to a byte.
-use super::Taken;
-use super::is_in;
+// The bytes that hexadecimal digits write, two to a byte.
 ghost use mathlib.Core.Path.{_≡_};
 ghost use mathlib.Core.Bool.{true};
 ghost use mathlib.Core.List.{_++_};
 ghost use Prim.Native.Nat.{_≤_};
 ghost use lib.ListN.{length, drop};
-ghost use Rattle.request.specs.Hex.{digit as digitOf, arePairs, pairs, isHex, bytesOf, bytesLeave};
+ghost use Rattle.request.specs.Test.{isIn};
+ghost use Rattle.hex.specs.Hex.{digit as digitOf, arePairs, pairs, isHex, bytesOf, bytesLeave};
+
+// How many bytes a word writes.
+pub enum Taken {
+    Bytes(usize),
+    Nothing,
+}
+
+// Whether a byte lies between two.
+fn is_in(b: u8, low: u8, high: u8) -> bool
+    ensures { λ r. ⌜ r ≡ isIn b low high ⌝ }
+{
+    if low <= b { b <= high } else { false }
+}
 
 // The value of a digit in either case, 16 for any other byte.
 fn digit(b: u8) -> u8

@@ -3,10 +3,10 @@
 use denote.Ref.{now}
 use mathlib.Core.Path.{sym, _∙_}
 use native.Mathlib.Omega.{arith}
-use Rattle.request.proofs.Pairs.{no-hex, one-hex, more-hex}
+use Rattle.hex.proofs.Pairs.{no-hex, one-hex, more-hex}
 use borrow.Author.Needs.{needs}
-use Rattle.request.proofs.hex.is_hex.Statement.{statement}
-use Rattle.request.proofs.hex.is_hex.Tie as tie
+use Rattle.hex.proofs.is_hex.Statement.{statement}
+use Rattle.hex.proofs.is_hex.Tie as tie
 
 returns : tie.Need-returns
 returns c = sym (no-hex (now (c .before .before .args .text)) (c .if1 .taken))

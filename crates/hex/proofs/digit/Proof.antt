@@ -4,10 +4,10 @@ use mathlib.Core.Path.{sym, _∙_}
 use native.Mathlib.Omega.{arith}
 use lib.Dec.{leb}
 use borrow.Author.Tests.{leb-true}
-use Rattle.request.proofs.Pairs.{both-true, digit-decimal, digit-upper, digit-lower, digit-none}
+use Rattle.hex.proofs.Pairs.{both-true, digit-decimal, digit-upper, digit-lower, digit-none}
 use borrow.Author.Needs.{needs}
-use Rattle.request.proofs.hex.digit.Statement.{statement}
-use Rattle.request.proofs.hex.digit.Tie as tie
+use Rattle.hex.proofs.digit.Statement.{statement}
+use Rattle.hex.proofs.digit.Tie as tie
 
 is-in-requires : tie.Need-is-in-requires
 is-in-requires c κs = search needs

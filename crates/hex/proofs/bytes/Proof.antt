@@ -6,12 +6,12 @@ use mathlib.Core.Path.{_≡_, sym, _∙_, ap}
 use native.Mathlib.Omega.{arith}
 use lib.ListN.{length}
 use borrow.Author.Tests.{not-true, not-false}
-use Rattle.request.specs.Hex.{pairs}
-use Rattle.request.proofs.Pairs.{one-hex}
-use Rattle.request.proofs.Room.{hex-pairs, no-word, no-room, all-taken}
+use Rattle.hex.specs.Hex.{pairs}
+use Rattle.hex.proofs.Pairs.{one-hex}
+use Rattle.hex.proofs.Room.{hex-pairs, no-word, no-room, all-taken}
 use borrow.Author.Needs.{needs}
-use Rattle.request.proofs.hex.bytes.Statement.{statement}
-use Rattle.request.proofs.hex.bytes.Tie as tie
+use Rattle.hex.proofs.bytes.Statement.{statement}
+use Rattle.hex.proofs.bytes.Tie as tie
 
 is-hex-requires : tie.Need-is-hex-requires
 is-hex-requires c κs = search needs

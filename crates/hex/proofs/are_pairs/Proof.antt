@@ -5,11 +5,11 @@ use Prim.Native.Nat.{_-_, _≤_}
 use mathlib.Core.Path.{_≡_, refl, sym, _∙_}
 use native.Mathlib.Omega.{arith}
 use lib.ListN.{length, drop}
-use Rattle.request.specs.Hex.{arePairs}
-use Rattle.request.proofs.Pairs.{pairs-end, pairs-odd, first-none, second-none, pairs-more}
+use Rattle.hex.specs.Hex.{arePairs}
+use Rattle.hex.proofs.Pairs.{pairs-end, pairs-odd, first-none, second-none, pairs-more}
 use borrow.Author.Needs.{needs}
-use Rattle.request.proofs.hex.are_pairs.Statement.{statement}
-use Rattle.request.proofs.hex.are_pairs.Tie as tie
+use Rattle.hex.proofs.are_pairs.Statement.{statement}
+use Rattle.hex.proofs.are_pairs.Tie as tie
 
 abbrev Inv-loop : tie.InvT-loop
 Inv-loop text at₀ at = (at ≤ length text) × (arePairs text ≡ arePairs (drop at text))

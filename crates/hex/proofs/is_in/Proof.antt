@@ -2,8 +2,8 @@
 -- Assumes nothing.
 use mathlib.Core.Path.{sym}
 use borrow.Author.Tests.{le-leb, lt-leb}
-use Rattle.request.proofs.is_in.Statement.{statement}
-use Rattle.request.proofs.is_in.Tie as tie
+use Rattle.hex.proofs.is_in.Statement.{statement}
+use Rattle.hex.proofs.is_in.Tie as tie
 
 returns : tie.Need-returns
 returns c = sym (simp (le-leb (c .before .args .low) (c .before .args .b) (c .if1 .taken)))

@@ -5,9 +5,9 @@ use mathlib.Core.Bool.{Bool, true, false, cond}
 use mathlib.Core.List.{List, [], _∷_, _++_}
 use lib.Dec.{leb, ltb, eqb}
 use lib.ListN.{length, drop}
 use Rattle.request.specs.Test.{both, isIn}
-use Rattle.request.specs.declared.Taken.{Taken}
-use Rattle.request.specs.declared.Taken.the-variants.{Bytes as Count, Nothing}
+use Rattle.hex.specs.declared.Taken.{Taken}
+use Rattle.hex.specs.declared.Taken.the-variants.{Bytes as Count, Nothing}
 
 -- the value of a digit, 16 for what is none: '0' is 48, 'A' 65 and 'a' 97
 unfoldable pub digit : ℕ → ℕ
