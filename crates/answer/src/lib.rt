@@ -3,9 +3,9 @@
 use asked::Asked;
 use asked::Form;
 use document_answers::Over;
+use hex::Taken;
 use output::put;
 use output::put_what;
-use hex::Taken;
 
 // ---- the answer, once all words of the line are read
 

@@ -1,6 +1,6 @@
 // What a line asks, and its words.
-use request::Parsed;
 use hex::Taken;
+use request::Parsed;
 
 // What is asked.
 pub enum Asked {

@@ -4,13 +4,13 @@ use decimal::Decimal;
 use decimal_words::put_answer;
 use decimal_words::put_counted;
 use decimal_words::put_order;
+use hex::Taken;
 use jsonb::Read;
 use jsonb::Value;
 use opaque::DecimalPart;
 use output::put;
 use output::put_refused;
 use output::put_what;
-use hex::Taken;
 
 // Precision, scale, and whether the precision is kept.
 pub fn put_bin(out: &mut [u8], at: usize, n: [u32; 24], bytes: &[u8]) -> usize {
