@@ -39,7 +39,7 @@ impl Decimal {
         ensures { λ r. ⌜ countTold r ≡ binSize self ⌝ }
     {
         let gs = self.groups;
-        if !groups::well_formed(self.intg, self.frac, &gs) {
+        if !formed::well_formed(self.intg, self.frac, &gs) {
             return Counted::Refused(refusal::RECORD);
         }
         groups::size(self.intg + self.frac, self.frac)

@@ -30,7 +30,7 @@ fn width_of(d: usize) -> usize
     DIG_TO_BYTES[d] as usize
 }
 
-pub(crate) fn power_of(d: usize) -> u32
+fn power_of(d: usize) -> u32
     requires { ⌜ d ≤ 9 ⌝ }
     ensures { λ r. ⌜ (r ≡ 10 ^ d) × ((r ≤ 1000000000) × (0 < r)) ⌝ }
 {

@@ -1,13 +1,11 @@
-// The digits of a decimal in groups of nine: how many digits and bytes each group has, and which records are decimals.
+// The digits of a decimal in groups of nine: how many digits and bytes each group has.
 mod layout;
-mod record;
 
 pub use layout::Sides;
 pub use layout::accepted;
 pub use layout::power;
 pub use layout::sides_of;
 pub use layout::size;
-pub use record::well_formed;
 
 // A count of bytes, or a refusal.
 pub enum Counted {

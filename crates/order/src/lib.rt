@@ -140,10 +140,10 @@ pub fn compare(
 ) -> Compared
     ensures { λ r. ⌜ told r ≡ compareTold na ia fa ga nb ib fb gb ⌝ }
 {
-    if !groups::well_formed(ia, fa, &ga) {
+    if !formed::well_formed(ia, fa, &ga) {
         return Compared::Refused(refusal::RECORD);
     }
-    if !groups::well_formed(ib, fb, &gb) {
+    if !formed::well_formed(ib, fb, &gb) {
         return Compared::Refused(refusal::RECORD);
     }
     // Copied after the tests, so that the compiler holds no group while it tests.

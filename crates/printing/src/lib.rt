@@ -212,7 +212,7 @@ pub fn print(out: &mut [u8], sign: bool, intg: usize, frac: usize, groups: [u32;
     ensures { λ r. ⌜ told r ≡ printTold sign intg frac groups (now (out .entry)) ⌝ }
     ensures { λ _. ⌜ now (out .exit) ≡ printLeaves sign intg frac groups (now (out .entry)) ⌝ }
 {
-    if !groups::well_formed(intg, frac, &groups) {
+    if !formed::well_formed(intg, frac, &groups) {
         return Counted::Refused(refusal::RECORD);
     }
     print_well(out, sign, intg, frac, &groups)

@@ -133,7 +133,7 @@ pub fn write(out: &mut [u8], inverted: bool, intg: usize, frac: usize, gs: [u32;
     ensures { λ r. ⌜ told r ≡ writeTold (formOf inverted) intg frac gs (now (out .entry)) ⌝ }
     ensures { λ _. ⌜ now (out .exit) ≡ writeLeaves (formOf inverted) intg frac gs (now (out .entry)) ⌝ }
 {
-    if !groups::well_formed(intg, frac, &gs) {
+    if !formed::well_formed(intg, frac, &gs) {
         return Counted::Refused(refusal::RECORD);
     }
     let s = groups::sides_of(intg, frac);

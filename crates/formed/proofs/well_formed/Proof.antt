@@ -4,11 +4,11 @@ use mathlib.Core.Path.{_≡_, sym, _∙_}
 use mathlib.Core.Bool.{true}
 use native.Mathlib.Omega.{arith}
 use borrow.Author.Tests.{not-true, not-false}
 use Rattle.groups.specs.Write.{digitsOk, wellFormed}
 use Rattle.groups.proofs.Accept.{digits-ok}
 use borrow.Author.Needs.{needs}
-use Rattle.groups.proofs.record.well_formed.Statement.{statement}
-use Rattle.groups.proofs.record.well_formed.Tie as tie
+use Rattle.formed.proofs.well_formed.Statement.{statement}
+use Rattle.formed.proofs.well_formed.Tie as tie
 
 in-digits : (c : tie.Else1) → let a = c .before .before .args in digitsOk (a .intg) (a .frac) ≡ true
 in-digits c = sym (c .before .digits-ok .ensures) ∙ not-false (c .before .digits-ok .result) (c .if1 .left)

@@ -1,11 +1,10 @@
-// Which records are decimals.
-use super::layout::power_of;
+// Which records are decimals: digits within the limits, each group below the power of its digits, and all others 0.
 ghost use mathlib.Core.Path.{_≡_};
 ghost use Prim.Native.Nat.{_+_, _≤_};
 ghost use lib.ListN.{getD};
 ghost use Rattle.groups.specs.Numbers.{all};
 ghost use Rattle.groups.specs.Course.{cappedAt};
 ghost use Rattle.groups.specs.Write.{digitsOk, wellAt, wellFormed};
 
 // Whether the first t groups have at most nine digits, and the others are 0.
 fn capped(groups: &[u32; 9], t: usize) -> bool
@@ -35,14 +34,14 @@ fn all_well(intg: usize, frac: usize, groups: &[u32; 9]) -> bool
     if !capped(groups, n + m) {
         return false;
     }
-    if groups[0] >= power_of(intg + 9 - 9 * n) {
+    if groups[0] >= groups::power(intg + 9 - 9 * n) {
         return false;
     }
     let rest = 9 * m - frac;
     if rest == 0 {
         true
     } else {
-        groups[n + m - 1] % power_of(rest) == 0
+        groups[n + m - 1] % groups::power(rest) == 0
     }
 }
 

@@ -4,11 +4,11 @@ use Prim.Native.Nat.{_≤_, _+_}
 use mathlib.Core.Path.{sym}
 use native.Mathlib.Omega.{arith}
 use borrow.Author.Tests.{le-leb}
 use Rattle.groups.specs.Write.{digitsOk}
 use Rattle.groups.proofs.Accept.{not-ok, both-unit}
 use borrow.Author.Needs.{needs}
-use Rattle.groups.proofs.record.digits_ok.Statement.{statement}
-use Rattle.groups.proofs.record.digits_ok.Tie as tie
+use Rattle.formed.proofs.digits_ok.Statement.{statement}
+use Rattle.formed.proofs.digits_ok.Tie as tie
 
 returns : tie.Need-returns
 returns c = sym (not-ok _ _ (λ h. omega arith))

@@ -8,10 +8,11 @@ use native.Mathlib.Omega.{arith}
 use lib.ListN.{getD}
 use borrow.Author.Needs.{needs}
 use borrow.Author.Tests.{not-true, not-false}
 use Rattle.groups.specs.Layout.{groupsOf}
+use Rattle.groups.proofs.Places.{power-is, pow-pos10}
 use Rattle.groups.proofs.Caps.{not-capped, first-over, all-of, all-is}
-use Rattle.groups.proofs.record.all_well.Statement.{statement}
-use Rattle.groups.proofs.record.all_well.Tie as tie
+use Rattle.formed.proofs.all_well.Statement.{statement}
+use Rattle.formed.proofs.all_well.Tie as tie
 
 add-n : tie.Need-add-n
 add-n c = search needs
@@ -34,23 +35,23 @@ returns c =
 element-copy-out-if2 : tie.Need-element-copy-out-if2
 element-copy-out-if2 c = search needs
 
-add-power-of : tie.Need-add-power-of
-add-power-of c = search needs
+add-power : tie.Need-add-power
+add-power c = search needs
 
-mul-power-of : tie.Need-mul-power-of
-mul-power-of c = search needs
+mul-power : tie.Need-mul-power
+mul-power c = search needs
 
-sub-power-of : tie.Need-sub-power-of
-sub-power-of c = search needs
+sub-power : tie.Need-sub-power
+sub-power c = search needs
 
-power-of-requires : tie.Need-power-of-requires
-power-of-requires c κs = search needs
+power-requires : tie.Need-power-requires
+power-requires c κs = search needs
 
 returns-2 : tie.Need-returns-2
 unfolding groupsOf
 returns-2 c =
     let a = c .before .before .before .before .before .args in
-    sym (first-over (a .intg) (a .frac) (now (a .groups)) (rw (c .before .power-of .ensures .0) at (c .if2 .taken)))
+    sym (first-over (a .intg) (a .frac) (now (a .groups)) (rw (c .before .power .ensures ∙ power-is (a .intg + 9 - 9 * groupsOf (a .intg)) (omega arith)) at (c .if2 .taken)))
 
 mul-rest : tie.Need-mul-rest
 mul-rest c = search needs
@@ -70,11 +71,15 @@ mul-result c = search needs
 element-copy-out-result : tie.Need-element-copy-out-result
 element-copy-out-result c = search needs
 
-power-of-requires-2 : tie.Need-power-of-requires-2
-power-of-requires-2 c κs = search needs
+power-requires-2 : tie.Need-power-requires-2
+power-requires-2 c κs = search needs
 
 rem-result : tie.Need-rem-result
-rem-result c = search needs
+unfolding groupsOf
+rem-result c =
+    let a = c .before .before .before .before .before .before .before .before .args in
+    let rest = 9 * groupsOf (a .frac) - a .frac in
+    rw (c .power2 .ensures ∙ power-is rest (omega arith)) (pow-pos10 rest)
 
 returns-3 : tie.Need-returns-3
 unfolding groupsOf
@@ -82,7 +87,7 @@ returns-3 c =
     let a = c .before .before .before .before .before .before .args in
     let z = c .before .before .before .before .before in
     let e : 9 * groupsOf (a .frac) - a .frac ≡ 0 = c .if3 .taken in
-    sym (all-of (a .intg) (a .frac) (now (a .groups)) (sym (z .capped .ensures) ∙ not-false (z .capped .result) (c .before .before .before .before .if1 .left)) (rw (c .before .before .power-of .ensures .0) at (c .before .if2 .left)) (rw e (mod-one (getD (now (a .groups)) (groupsOf (a .intg) + groupsOf (a .frac) - 1) 0))))
+    sym (all-of (a .intg) (a .frac) (now (a .groups)) (sym (z .capped .ensures) ∙ not-false (z .capped .result) (c .before .before .before .before .if1 .left)) (rw (c .before .before .power .ensures ∙ power-is (a .intg + 9 - 9 * groupsOf (a .intg)) (omega arith)) at (c .before .if2 .left)) (rw e (mod-one (getD (now (a .groups)) (groupsOf (a .intg) + groupsOf (a .frac) - 1) 0))))
 
 returns-4 : tie.Need-returns-4
 unfolding groupsOf
@@ -90,7 +95,7 @@ returns-4 c =
     let a = c .before .before .before .before .before .before .before .before .args in
     let z = c .before .before .before .before .before .before .before in
     let h : 0 < 9 * groupsOf (a .frac) - a .frac = omega arith in
-    rw (c .power-of2 .ensures .0) (sym (all-is (a .intg) (a .frac) (now (a .groups)) (sym (z .capped .ensures) ∙ not-false (z .capped .result) (c .before .before .before .before .before .before .if1 .left)) (rw (c .before .before .before .before .power-of .ensures .0) at (c .before .before .before .if2 .left)) h (omega arith)))
+    rw (c .power2 .ensures ∙ power-is (9 * groupsOf (a .frac) - a .frac) (omega arith)) (sym (all-is (a .intg) (a .frac) (now (a .groups)) (sym (z .capped .ensures) ∙ not-false (z .capped .result) (c .before .before .before .before .before .before .if1 .left)) (rw (c .before .before .before .before .power .ensures ∙ power-is (a .intg + 9 - 9 * groupsOf (a .intg)) (omega arith)) at (c .before .before .before .if2 .left)) h (omega arith)))
 
 pub all-well-spec : {M : Type 1} → statement M
 all-well-spec =
@@ -102,10 +107,10 @@ all-well-spec =
     capped-requires
     returns
     element-copy-out-if2
-    add-power-of
-    mul-power-of
-    sub-power-of
-    power-of-requires
+    add-power
+    mul-power
+    sub-power
+    power-requires
     returns-2
     mul-rest
     sub-rest
@@ -113,7 +118,7 @@ all-well-spec =
     sub-result
     mul-result
     element-copy-out-result
-    power-of-requires-2
+    power-requires-2
     rem-result
     returns-3
     returns-4)

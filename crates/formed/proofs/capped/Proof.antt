@@ -10,10 +10,10 @@ use mathlib.Core.Bool.{true}
 use mathlib.Core.Logic.{⊎-elim}
 use native.Mathlib.Omega.{arith}
 use lib.ListN.{getD}
 use Rattle.groups.specs.Course.{cappedAt}
 use Rattle.groups.proofs.Tab.{all-true, all-false}
-use Rattle.groups.proofs.record.capped.Statement.{statement}
-use Rattle.groups.proofs.record.capped.Tie as tie
+use Rattle.formed.proofs.capped.Statement.{statement}
+use Rattle.formed.proofs.capped.Tie as tie
 
 abbrev Inv-loop : tie.InvT-loop
 Inv-loop groups t k₀ k = (k ≤ 9) × ((j : ℕ) → j < k → cappedAt t j (getD groups j 0) ≡ true)
