@@ -3,12 +3,12 @@
 use mathlib.Core.Path.{_≡_, refl, sym, ap, _∙_}
 use mathlib.Core.Bool.{Bool, true, false, cond}
 use mathlib.Core.List.{List, [], _∷_}
-use Prim.Native.Nat.{ℕ, _+_, _*_, _-_, _≤_, _<_}
+use Prim.Native.Nat.{ℕ, _+_, _-_, _≤_, _<_}
 use native.Mathlib.Omega.{arith}
 use lib.Dec.{ltb}
 use lib.ListN.{length, getD}
 use lib.Seq.{slice}
-use borrow.Author.Tests.{le-ltb, lt-ltb, lt-leb, ltb-false, eq-eqb, ne-eqb}
+use borrow.Author.Tests.{le-ltb, lt-ltb, lt-leb}
 use Rattle.refusal.specs.Told.{Told, answer, refusal}
 use Rattle.length_field.specs.Length.{Groups, groups, got, short, long, fieldOf, told, lengthAt}
 use Rattle.length_field.specs.declared.Length.{Length}
@@ -22,51 +22,12 @@ use Rattle.columns.specs.declared.ColumnOf.{ColumnOf}
 use Rattle.columns.specs.declared.ColumnOf.the-variants as column-of
 use Rattle.layout.specs.declared.Kind.{Kind}
 use Rattle.value.specs.declared.Number.{Number}
-use Rattle.content.specs.declared.Header.{Header}
-use Rattle.content.specs.declared.Header.the-variants.{Whole, Refused}
 use Rattle.content.specs.declared.Read.{Read}
 use Rattle.content.specs.declared.Read.the-variants as read
 use Rattle.content.specs.declared.Part.{Part}
 use Rattle.content.specs.declared.Part.the-variants as part
-use Rattle.layout.specs.Layout.{offsetSize, offsetAt, headerSize}
-use Rattle.content.specs.Reading.{headerAt, span, parted, partAt, partOf, opaqueType, opaqueScalar, opaqueOf, opaqueAt, containerAt, numberAt, contentAt}
-use Rattle.content.specs.Course.{Within}
+use Rattle.content.specs.Reading.{span, parted, partAt, partOf, opaqueType, opaqueScalar, opaqueOf, opaqueAt, containerAt, numberAt, contentAt}
 use Rattle.layout.proofs.Cond.{yes, no}
-
--- w, n, s and h are the offset size, the count, the size and the header's size as callees give them
-module _ (d : List ℕ) (k : Kind) (i e : ℕ) {w : ℕ} (we : w ≡ offsetSize k) where
-  pub head-short : e - i < 2 * w → Refused 3 ≡ headerAt d k i e
-  unfolding headerAt
-  head-short t = yes _ (lt-ltb (e - i) (2 * offsetSize k) (omega arith)) refl
-
-  module _ {s : ℕ} (se : s ≡ offsetAt d k (i + w) e) (t : 2 * w ≤ e - i) where
-    size-is : s ≡ offsetAt d k (i + offsetSize k) e
-    size-is = rw we at se
-
-    pub head-over : e - i < s → Refused 4 ≡ headerAt d k i e
-    unfolding headerAt
-    head-over u =
-        no _ (le-ltb (e - i) (2 * offsetSize k) (omega arith))
-        (yes _ (lt-ltb (e - i) (offsetAt d k (i + offsetSize k) e) (omega (arith, size-is))) refl)
-
-    module _ {n h : ℕ} (ne : n ≡ offsetAt d k i e) (he : h ≡ headerSize k n) (u : s ≤ e - i) where
-      head-is : h ≡ headerSize k (offsetAt d k i e)
-      head-is = rw ne at he
-
-      pub head-low : s < h → Refused 4 ≡ headerAt d k i e
-      unfolding headerAt
-      head-low v =
-          no _ (le-ltb (e - i) (2 * offsetSize k) (omega arith))
-          (no _ (le-ltb (e - i) (offsetAt d k (i + offsetSize k) e) (omega (arith, size-is)))
-          (yes _ (lt-ltb (offsetAt d k (i + offsetSize k) e) (headerSize k (offsetAt d k i e)) (omega (arith, size-is, head-is))) refl))
-
-      pub head-whole : h ≤ s → Whole n s ≡ headerAt d k i e
-      unfolding headerAt
-      head-whole v =
-          no _ (le-ltb (e - i) (2 * offsetSize k) (omega arith))
-          (no _ (le-ltb (e - i) (offsetAt d k (i + offsetSize k) e) (omega (arith, size-is)))
-          (no _ (le-ltb (offsetAt d k (i + offsetSize k) e) (headerSize k (offsetAt d k i e)) (omega (arith, size-is, head-is)))
-          (cc (size-is))))
 
 -- a part of the document; r is the length field as the callee gives it
 abbrev spanned : ℕ → ℕ → ℕ → Part

@@ -1,12 +1,12 @@
 -- What stands at a place i of the document, up to an end e, which is that of the enclosing container or entry (json_binary.h of MySQL; document 01, 'Container
 -- rules' and the order of its refusals).
 -- Assumes nothing.
-use Prim.Native.Nat.{ℕ, _+_, _*_, _-_}
+use Prim.Native.Nat.{ℕ, _+_, _-_}
 use mathlib.Core.Bool.{Bool, true, false, cond}
 use mathlib.Core.List.{List}
-use lib.Dec.{ltb, leb, eqb}
+use lib.Dec.{ltb, leb}
 use lib.Ieee.{binary64, nanBits, ofBits}
-use lib.ListN.{length, getD}
+use lib.ListN.{getD}
 use lib.Seq.{slice}
 use mir.Syntax.{w16, w32, w64}
 use mir.Val.{toZ}
@@ -22,8 +22,10 @@ use Rattle.codes.specs.declared.literals.LiteralOf.the-variants as literal-of
 use Rattle.columns.specs.declared.ColumnType.{ColumnType}
 use Rattle.columns.specs.declared.ColumnOf.{ColumnOf}
 use Rattle.columns.specs.declared.ColumnOf.the-variants as column-of
-use Rattle.layout.specs.Layout.{offsetSize, headerSize, offsetAt}
 use Rattle.layout.specs.declared.Kind.{Kind}
+use Rattle.header.specs.Headers.{headerAt, placed}
+use Rattle.header.specs.declared.Header.{Header}
+use Rattle.header.specs.declared.Header.the-variants as header
 use Rattle.value.specs.declared.View.{View}
 use Rattle.value.specs.declared.Span.{Span}
 use Rattle.value.specs.declared.Number.{Number}
@@ -33,8 +35,6 @@ use Rattle.value.specs.declared.Scalar.the-variants as scalar
 use Rattle.value.specs.declared.Value.the-variants as value
 use Rattle.content.specs.declared.Read.{Read}
 use Rattle.content.specs.declared.Read.the-variants.{Value, Refused}
-use Rattle.content.specs.declared.Header.{Header}
-use Rattle.content.specs.declared.Header.the-variants as header
 use Rattle.content.specs.declared.Part.{Part}
 use Rattle.content.specs.declared.Part.the-variants as part
 
@@ -50,14 +50,7 @@ view s n c k = record { start = s; size = n; count = c; kind = k }
 abbrev pub scalarOf : JsonbType → Scalar → Read
 scalarOf t s = Value (value.Scalar t s)
 
--- ---- containers: count and size, 3 where one is missing; then 4 where the size exceeds what is left or the header the size
-unfoldable pub headerAt : List ℕ → Kind → ℕ → ℕ → Header
-headerAt d k i e =
-    cond (ltb (e - i) (2 * offsetSize k)) (header.Refused 3)
-    (cond (ltb (e - i) (offsetAt d k (i + offsetSize k) e)) (header.Refused 4)
-    (cond (ltb (offsetAt d k (i + offsetSize k) e) (headerSize k (offsetAt d k i e))) (header.Refused 4)
-    (header.Whole (offsetAt d k i e) (offsetAt d k (i + offsetSize k) e))))
-
+-- ---- containers: what the header says
 abbrev pub viewed : Kind → ℕ → Header → Read
 viewed k i (header.Whole n s) = Value (value.Container (view i s n k))
 viewed k i (header.Refused f) = Refused f
@@ -129,16 +122,6 @@ contentAt d type.Double i e = numberAt type.Double 8 i e (doubleOf (le 8 d i e))
 contentAt d type.String i e = stringAt d i e
 contentAt d type.Opaque i e = opaqueAt d i e
 
--- ---- at any place: 1 for a document that is too long, 3 where the document has no such place and end
-unfoldable pub placeFault : List ℕ → ℕ → ℕ → ℕ
-placeFault d i e = cond (ltb 16777216 (length d)) 1 (cond (ltb (length d) e) 3 (cond (ltb e i) 3 0))
-
--- what is read there, or the fault
-abbrev pub placed : {A : Type 0} → List ℕ → ℕ → ℕ → (ℕ → A) → A → A
-placed d i e refused x = cond (eqb (placeFault d i e) 0) x (refused (placeFault d i e))
-
+-- ---- at any place: the fault, or what is read there
 unfoldable pub readAt : List ℕ → JsonbType → ℕ → ℕ → Read
 readAt d t i e = placed d i e Refused (contentAt d t i e)
-
-unfoldable pub headerRead : List ℕ → Kind → ℕ → ℕ → Header
-headerRead d k i e = placed d i e header.Refused (headerAt d k i e)

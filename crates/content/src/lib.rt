@@ -5,8 +5,8 @@ use codes::LiteralOf;
 use codes::LiteralType;
 use columns::ColumnOf;
 use columns::ColumnType;
+use header::Header;
 use layout::Kind;
-use layout::offset_at;
 use length_field::Length;
 use value::Number;
 use value::Scalar;
@@ -17,18 +17,14 @@ ghost use mathlib.Core.Path.{_≡_};
 ghost use Prim.Native.Nat.{_≤_};
 ghost use lib.Ieee.{binary64, nanBits};
 ghost use lib.ListN.{length};
-ghost use Rattle.content.specs.Reading.{kind, scalarOf, placeFault, partOf, opaqueType, opaqueScalar, headerAt, containerAt, literalOf, literalAt, doubleOf, numberAt, partAt, stringAt, opaqueAt, contentAt, readAt, headerRead};
-ghost use Rattle.content.specs.Course.{Within};
+ghost use Rattle.codes.specs.declared.types.JsonbType.the-variants.{Literal};
+ghost use Rattle.codes.specs.declared.literals.LiteralOf.the-variants.{Known};
+ghost use Rattle.header.specs.Course.{Within};
+ghost use Rattle.content.specs.Reading.{kind, scalarOf, partOf, opaqueType, opaqueScalar, containerAt, literalOf, literalAt, doubleOf, numberAt, partAt, stringAt, opaqueAt, contentAt, readAt};
 
 // A value, or a refusal.
 pub enum Read {
     Value(Value),
-    Refused(u8),
-}
-
-// Count and size of a container, or a refusal.
-pub enum Header {
-    Whole { count: u32, size: u32 },
     Refused(u8),
 }
 
@@ -38,33 +34,11 @@ pub enum Part {
     Refused(u8),
 }
 
-// Count and size, where both and the header fit.
-fn read_header(doc: &[u8], k: Kind, at: usize, end: usize) -> Header
-    requires { ⌜ Within (length (now doc)) at end ⌝ }
-    ensures { λ r. ⌜ r ≡ headerAt (now (doc .entry)) k at end ⌝ }
-{
-    let left = end - at;
-    let w = k.offset_size();
-    if left < 2 * w {
-        return Header::Refused(refusal::CUT);
-    }
-    let count = offset_at(doc, k, at, end);
-    let size = offset_at(doc, k, at + w, end);
-    let whole = size as usize;
-    if left < whole {
-        return Header::Refused(refusal::SIZE);
-    }
-    if whole < k.header_size(count) {
-        return Header::Refused(refusal::SIZE);
-    }
-    Header::Whole { count, size }
-}
-
 fn read_container(doc: &[u8], k: Kind, at: usize, end: usize) -> Read
     requires { ⌜ Within (length (now doc)) at end ⌝ }
     ensures { λ r. ⌜ r ≡ containerAt (now (doc .entry)) k at end ⌝ }
 {
-    match read_header(doc, k, at, end) {
+    match header::header_at(doc, k, at, end) {
         Header::Whole { count, size } => Read::Value(Value::Container(View {
             start: at as u32,
             size,
@@ -87,15 +61,21 @@ fn scalar_value(t: JsonbType, s: Scalar) -> Read
     Read::Value(Value::Scalar(t, s))
 }
 
+fn literal_scalar(t: LiteralType) -> Scalar
+    ensures { λ r. ⌜ scalarOf Literal r ≡ literalOf (Known t) ⌝ }
+{
+    match t {
+        LiteralType::Null => Scalar::Null,
+        LiteralType::True => Scalar::Boolean(true),
+        LiteralType::False => Scalar::Boolean(false),
+    }
+}
+
 fn literal_value(l: LiteralOf) -> Read
     ensures { λ r. ⌜ r ≡ literalOf l ⌝ }
 {
     match l {
-        LiteralOf::Known(t) => match t {
-            LiteralType::Null => scalar_value(JsonbType::Literal, Scalar::Null),
-            LiteralType::True => scalar_value(JsonbType::Literal, Scalar::Boolean(true)),
-            LiteralType::False => scalar_value(JsonbType::Literal, Scalar::Boolean(false)),
-        },
+        LiteralOf::Known(t) => scalar_value(JsonbType::Literal, literal_scalar(t)),
         LiteralOf::Refused(n) => Read::Refused(n),
     }
 }
@@ -210,40 +190,13 @@ fn read_content(doc: &[u8], t: JsonbType, at: usize, end: usize) -> Read
     }
 }
 
-// What is wrong with a place and an end in a document: 1, 3, or 0 for nothing.
-pub fn place_fault(doc: &[u8], at: usize, end: usize) -> u8
-    ensures { λ r. ⌜ r ≡ placeFault (now (doc .entry)) at end ⌝ }
-{
-    if 16777216 < doc.len() {
-        return refusal::DOCUMENT;
-    }
-    if doc.len() < end {
-        return refusal::CUT;
-    }
-    if end < at {
-        return refusal::CUT;
-    }
-    0
-}
-
 // The value of a type at a place, up to an end.
 pub fn value_at(doc: &[u8], t: JsonbType, at: usize, end: usize) -> Read
     ensures { λ r. ⌜ r ≡ readAt (now (doc .entry)) t at end ⌝ }
 {
-    let fault = place_fault(doc, at, end);
+    let fault = header::place_fault(doc, at, end);
     if fault != 0 {
         return Read::Refused(fault);
     }
     read_content(doc, t, at, end)
-}
-
-// Count and size of a container of a kind at a place, up to an end.
-pub fn header_at(doc: &[u8], k: Kind, at: usize, end: usize) -> Header
-    ensures { λ r. ⌜ r ≡ headerRead (now (doc .entry)) k at end ⌝ }
-{
-    let fault = place_fault(doc, at, end);
-    if fault != 0 {
-        return Header::Refused(fault);
-    }
-    read_header(doc, k, at, end)
 }

@@ -13,9 +13,10 @@ use Rattle.codes.specs.declared.types.JsonbType.{JsonbType}
 use Rattle.codes.specs.declared.types.TypeOf.{TypeOf}
 use Rattle.layout.specs.Layout.{offsetSize, offsetAt, headerSize, valuePlace, keyPlace, keyEntry}
 use Rattle.layout.proofs.Cond.{yes, no}
-use Rattle.content.specs.Reading.{span, readAt, placeFault}
-use Rattle.content.specs.Course.{Within}
-use Rattle.content.proofs.Placed.{placed-fault, placed-right, right-place}
+use Rattle.content.specs.Reading.{span, readAt}
+use Rattle.header.specs.Headers.{placeFault}
+use Rattle.header.specs.Course.{Within}
+use Rattle.header.proofs.Placed.{placed-fault, placed-right, right-place}
 use Rattle.value.specs.declared.View.{View}
 use Rattle.content.specs.declared.Read.{Read}
 use Rattle.content.specs.declared.Read.the-variants as read

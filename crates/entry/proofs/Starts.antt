@@ -13,7 +13,8 @@ use Rattle.codes.specs.declared.types.TypeOf.{TypeOf}
 use Rattle.codes.specs.declared.types.TypeOf.the-variants as type-of
 use Rattle.layout.specs.Layout.{offsetSize, offsetAt}
 use Rattle.content.specs.Reading.{readAt}
-use Rattle.content.proofs.Placed.{placed-so, no-value, read-so}
+use Rattle.content.proofs.Placed.{no-value, read-so}
+use Rattle.header.proofs.Placed.{placed-so}
 use Rattle.content.specs.declared.Read.the-variants as read
 use Rattle.value.specs.declared.View.{View}
 use Rattle.value.specs.declared.Value.{Value}

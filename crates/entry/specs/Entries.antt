@@ -13,7 +13,8 @@ use Rattle.codes.specs.declared.types.TypeOf.{TypeOf}
 use Rattle.codes.specs.declared.types.TypeOf.the-variants as type-of
 use Rattle.layout.specs.Layout.{offsetSize, keyEntry, keyPlace, valuePlace, headerSize, offsetAt}
 use Rattle.value.specs.declared.View.{View}
-use Rattle.content.specs.Reading.{span, placed, readAt}
+use Rattle.content.specs.Reading.{span, readAt}
+use Rattle.header.specs.Headers.{placed}
 use Rattle.content.specs.declared.Read.{Read}
 use Rattle.content.specs.declared.Read.the-variants as read
 use Rattle.content.specs.declared.Part.{Part}

@@ -10,7 +10,7 @@ ghost use Prim.Native.Nat.{_+_, _<_};
 ghost use lib.ListN.{length, getD};
 ghost use Rattle.codes.specs.Types.{typeOf};
 ghost use Rattle.layout.specs.Layout.{offsetSize};
-ghost use Rattle.content.specs.Course.{Within};
+ghost use Rattle.header.specs.Course.{Within};
 ghost use Rattle.entry.specs.Entries.{endOf, isInlined, placeAt, pointedAt, typedEntry, entryOf, keyOf, entryRead, keyRead};
 
 // Whether values of a type stand in their entry.
@@ -83,7 +83,7 @@ pub fn read_entry(doc: &[u8], v: View, i: u32) -> Read
     let k = v.kind;
     let start = v.start as usize;
     let at = start + k.value_place(v.count, i);
-    let fault = content::place_fault(doc, at + 1 + k.offset_size(), start + v.size as usize);
+    let fault = header::place_fault(doc, at + 1 + k.offset_size(), start + v.size as usize);
     if fault != 0 {
         return Read::Refused(fault);
     }
@@ -119,7 +119,7 @@ pub fn read_key(doc: &[u8], v: View, i: u32) -> Part
     let k = v.kind;
     let start = v.start as usize;
     let place = start + k.key_place(i);
-    let fault = content::place_fault(doc, place + k.key_entry(), start + v.size as usize);
+    let fault = header::place_fault(doc, place + k.key_entry(), start + v.size as usize);
     if fault != 0 {
         return Part::Refused(fault);
     }

@@ -7,10 +7,10 @@ use Prim.Native.Nat.{ℕ}
 use lib.ListN.{length}
 use lib.Dec.{eqb}
 use borrow.Author.Tests.{eq-eqb, ne-eqb}
-use Rattle.content.specs.Reading.{headerRead}
+use Rattle.header.specs.Headers.{headerRead}
 use Rattle.value.specs.declared.View.{View}
-use Rattle.content.specs.declared.Header.{Header}
-use Rattle.content.specs.declared.Header.the-variants as header
+use Rattle.header.specs.declared.Header.{Header}
+use Rattle.header.specs.declared.Header.the-variants as header
 use Rattle.gate.specs.Before.{matches, names}
 use Rattle.layout.proofs.Cond.{yes, no}
 

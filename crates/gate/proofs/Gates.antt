@@ -9,19 +9,19 @@ use lib.ListN.{length}
 use lib.Dec.{ltb, leb, eqb}
 use borrow.Author.Tests.{ltb-false, leb-false, eqb-true}
 use Rattle.layout.specs.Layout.{offsetSize, offsetAt, headerSize}
-use Rattle.content.specs.Reading.{headerAt, headerRead, placeFault}
+use Rattle.header.specs.Headers.{headerAt, headerRead, placeFault}
 use Rattle.layout.specs.declared.Kind.{Kind}
 use Rattle.value.specs.declared.View.{View}
-use Rattle.content.specs.declared.Header.{Header}
-use Rattle.content.specs.declared.Header.the-variants as header
+use Rattle.header.specs.declared.Header.{Header}
+use Rattle.header.specs.declared.Header.the-variants as header
 use Rattle.gate.specs.declared.Gate.{Gate}
 use Rattle.gate.specs.declared.Gate.the-variants.{Open, Nothing, Refused}
 use Rattle.gate.specs.Said.{Said, says, nothing, refuses}
 use Rattle.gate.specs.Before.{matches, names, gated, gateOf, Whole}
 use Rattle.layout.specs.Layout.{valuePlace, keyPlace, keyEntry}
 use Rattle.layout.proofs.Inside.{size-two, value-inside, key-inside}
-use Rattle.content.specs.Course.{Within}
-use Rattle.content.proofs.Placed.{placed-within}
+use Rattle.header.specs.Course.{Within}
+use Rattle.header.proofs.Placed.{placed-within}
 use Rattle.content.specs.declared.Read.the-variants as read
 use Rattle.content.specs.declared.Part.the-variants as part
 use Rattle.entry.specs.Entries.{endOf, valueEnd, entryAt, entryRead, keyEnd, keyEntryAt, keyRead}

@@ -6,10 +6,10 @@ use mathlib.Core.List.{List}
 use lib.Dec.{ltb, leb, eqb}
 use lib.ListN.{length}
 use Rattle.layout.specs.Layout.{headerSize}
-use Rattle.content.specs.Reading.{headerRead}
+use Rattle.header.specs.Headers.{headerRead}
 use Rattle.value.specs.declared.View.{View}
-use Rattle.content.specs.declared.Header.{Header}
-use Rattle.content.specs.declared.Header.the-variants as header
+use Rattle.header.specs.declared.Header.{Header}
+use Rattle.header.specs.declared.Header.the-variants as header
 use Rattle.gate.specs.Said.{Said, nothing, refuses}
 use Rattle.gate.specs.declared.Gate.{Gate}
 use Rattle.gate.specs.declared.Gate.the-variants.{Open, Nothing, Refused}

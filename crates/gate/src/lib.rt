@@ -1,7 +1,7 @@
 // What comes before any entry of a container is looked at, and the answers of what looks at one.
-use content::Header;
 use content::Part;
 use content::Read;
+use header::Header;
 use value::Span;
 use value::Value;
 use value::View;
@@ -35,7 +35,7 @@ pub fn is_whole(doc: &[u8], v: View) -> bool
     ensures { λ r. ⌜ r ≡ matches (now (doc .entry)) v ⌝ }
 {
     let k = v.kind;
-    match content::header_at(doc, k, v.start as usize, doc.len()) {
+    match header::header_at(doc, k, v.start as usize, doc.len()) {
         Header::Whole { count, size } => {
             if count == v.count {
                 size == v.size

@@ -27,8 +27,9 @@ use Rattle.columns.specs.declared.ColumnType.{ColumnType}
 use Rattle.columns.specs.declared.ColumnOf.{ColumnOf}
 use Rattle.columns.specs.declared.ColumnOf.the-variants as column-of
 use Rattle.layout.specs.Layout.{offsetSize, headerSize, offsetAt}
-use Rattle.content.specs.Reading.{kind, span, viewed, containerAt, headerAt, literalOf, literalAt, numberAt, parted, partAt, partOf, stringAt}
-use Rattle.content.specs.Reading.{opaqueOf, opaqueAt, contentAt, placeFault, readAt}
+use Rattle.content.specs.Reading.{kind, span, viewed, containerAt, literalOf, literalAt, numberAt, parted, partAt, partOf, stringAt}
+use Rattle.content.specs.Reading.{opaqueOf, opaqueAt, contentAt, readAt}
+use Rattle.header.specs.Headers.{headerAt, placeFault}
 use Rattle.layout.specs.declared.Kind.{Kind}
 use Rattle.value.specs.declared.View.{View}
 use Rattle.value.specs.declared.Span.{Span}
@@ -39,7 +40,7 @@ use Rattle.value.specs.declared.Value.{Value}
 use Rattle.value.specs.declared.Value.the-variants as value
 use Rattle.content.specs.declared.Read.{Read}
 use Rattle.content.specs.declared.Read.the-variants as read
-use Rattle.content.specs.declared.Header.the-variants as header
+use Rattle.header.specs.declared.Header.the-variants as header
 use Rattle.content.specs.declared.Part.{Part}
 use Rattle.content.specs.declared.Part.the-variants as part
 use Rattle.gate.specs.Said.{Said, says, nothing, refuses, readSaid, partSaid}

@@ -37,13 +37,14 @@ use Rattle.value.specs.declared.Number.the-variants.{Int, Uint}
 use Rattle.value.specs.declared.Scalar.the-variants as scalar
 use Rattle.value.specs.declared.Value.{Value}
 use Rattle.value.specs.declared.Value.the-variants as value
-use Rattle.content.specs.Reading.{kind, span, headerAt, viewed, literalOf, literalAt, doubleOf, numberAt, parted, partAt, partOf, stringAt, opaqueOf, opaqueAt}
+use Rattle.content.specs.Reading.{kind, span, viewed, literalOf, literalAt, doubleOf, numberAt, parted, partAt, partOf, stringAt, opaqueOf, opaqueAt}
+use Rattle.header.specs.Headers.{headerAt}
 use Rattle.content.specs.Reading.{contentAt}
 use Rattle.content.specs.declared.Read.{Read}
 use Rattle.content.specs.declared.Read.the-variants as read
-use Rattle.content.specs.declared.Header.{Header}
-use Rattle.content.specs.declared.Header.the-variants.{Whole}
-use Rattle.content.specs.declared.Header.the-variants as header
+use Rattle.header.specs.declared.Header.{Header}
+use Rattle.header.specs.declared.Header.the-variants.{Whole}
+use Rattle.header.specs.declared.Header.the-variants as header
 use Rattle.content.specs.declared.Part.{Part}
 use Rattle.content.specs.declared.Part.the-variants as part
 use Rattle.gate.proofs.Gates.{head-by}

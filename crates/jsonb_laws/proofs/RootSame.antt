@@ -20,7 +20,8 @@ use Rattle.value.specs.declared.Value.{Value}
 use Rattle.value.specs.declared.Value.the-variants as value
 use Rattle.content.specs.Reading.{readAt}
 use Rattle.content.specs.declared.Read.the-variants as read
-use Rattle.content.proofs.Placed.{no-value, read-so, placed-within}
+use Rattle.content.proofs.Placed.{no-value, read-so}
+use Rattle.header.proofs.Placed.{placed-within}
 use Rattle.jsonb.specs.Views.{typedAt, rootRead}
 use Rattle.jsonb_laws.specs.Ends.{endAt}
 use Rattle.jsonb_laws.proofs.OwnEnd.{byte-same, reaches, content-ends, content-again}

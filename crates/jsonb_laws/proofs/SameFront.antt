@@ -23,8 +23,9 @@ use Rattle.codes.specs.declared.types.JsonbType.the-variants as type
 use Rattle.codes.specs.declared.types.TypeOf.{TypeOf}
 use Rattle.codes.specs.declared.types.TypeOf.the-variants as type-of
 use Rattle.layout.specs.Layout.{offsetSize, headerSize, offsetAt, keyPlace}
-use Rattle.content.specs.Reading.{kind, headerAt, viewed, literalOf, literalAt, numberAt, doubleOf, parted, partAt, partOf, stringAt, opaqueOf, opaqueAt}
-use Rattle.content.specs.Reading.{contentAt, placeFault, readAt, headerRead}
+use Rattle.content.specs.Reading.{kind, viewed, literalOf, literalAt, numberAt, doubleOf, parted, partAt, partOf, stringAt, opaqueOf, opaqueAt}
+use Rattle.content.specs.Reading.{contentAt, readAt}
+use Rattle.header.specs.Headers.{headerAt, placeFault, headerRead}
 use Rattle.layout.specs.declared.Kind.{Kind}
 use Rattle.value.specs.declared.View.{View}
 use Rattle.value.specs.declared.Number.{Number}
@@ -32,9 +33,9 @@ use Rattle.value.specs.declared.Number.the-variants.{Int, Uint}
 use Rattle.value.specs.declared.Scalar.the-variants as scalar
 use Rattle.content.specs.declared.Read.the-variants.{Refused}
 use Rattle.content.specs.declared.Part.{Part}
-use Rattle.content.specs.declared.Header.{Header}
-use Rattle.content.specs.declared.Header.the-variants as header
-use Rattle.content.proofs.Placed.{placed-within}
+use Rattle.header.specs.declared.Header.{Header}
+use Rattle.header.specs.declared.Header.the-variants as header
+use Rattle.header.proofs.Placed.{placed-within}
 use Rattle.value.specs.declared.Span.{Span}
 use Rattle.value.specs.declared.Value.{Value}
 use Rattle.gate.specs.Said.{Said, nothing, refuses, readSaid, partSaid}

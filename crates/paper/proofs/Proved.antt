@@ -16,7 +16,8 @@ use Rattle.codes.specs.Lists.{search as searched}
 use Rattle.codes.specs.Types.{typeOf}
 use Rattle.codes.specs.Literals.{typeOf as literalType}
 use Rattle.layout.specs.Layout.{offsetSize, keyEntry, keyPlace, valuePlace, headerSize, offsetAt}
-use Rattle.content.specs.Reading.{headerAt, literalAt, numberAt, partAt, stringAt, contentAt, placeFault, readAt, headerRead}
+use Rattle.content.specs.Reading.{literalAt, numberAt, partAt, stringAt, contentAt, readAt}
+use Rattle.header.specs.Headers.{headerAt, placeFault, headerRead}
 use Rattle.entry.specs.Entries.{pointedAt, typedEntry, entryAt, keyOf, keyEntryAt, startOf, valueStart}
 use Rattle.gate.specs.Said.{Said}
 use Rattle.jsonb.specs.Views.{rootRead, elemAt, keyAt}

@@ -17,7 +17,8 @@ use Rattle.value.specs.declared.View.{View}
 use Rattle.value.specs.declared.Value.the-variants as value
 use Rattle.value.specs.declared.Scalar.the-variants as scalar
 use Rattle.value.specs.declared.Number.the-variants as number
-use Rattle.content.specs.Reading.{kind, span, view, headerAt, literalAt, numberAt, contentAt, placeFault, readAt, headerRead}
+use Rattle.content.specs.Reading.{kind, span, view, literalAt, numberAt, contentAt, readAt}
+use Rattle.header.specs.Headers.{headerAt, placeFault, headerRead}
 use Rattle.content.specs.declared.Read.{Read}
 use Rattle.entry.specs.Entries.{typedEntry, entryAt, keyOf, keyEntryAt}
 use Rattle.gate.specs.Said.{says, readSaid, foundSaid, keySaid}

@@ -34,14 +34,15 @@ use Rattle.value.specs.declared.Scalar.{Scalar}
 use Rattle.value.specs.declared.Scalar.the-variants as scalar
 use Rattle.value.specs.declared.Value.{Value}
 use Rattle.value.specs.declared.Value.the-variants as value
-use Rattle.content.specs.Reading.{kind, view, viewed, containerAt, headerAt, headerRead, literalOf, literalAt, numberAt, partAt, partOf, stringAt}
-use Rattle.content.specs.Reading.{opaqueOf, opaqueAt, contentAt, placeFault, readAt}
-use Rattle.content.specs.Course.{Within}
-use Rattle.content.proofs.Placed.{right-place, placed-within}
+use Rattle.content.specs.Reading.{kind, view, viewed, containerAt, literalOf, literalAt, numberAt, partAt, partOf, stringAt}
+use Rattle.content.specs.Reading.{opaqueOf, opaqueAt, contentAt, readAt}
+use Rattle.header.specs.Headers.{headerAt, headerRead, placeFault}
+use Rattle.header.specs.Course.{Within}
+use Rattle.header.proofs.Placed.{right-place, placed-within}
 use Rattle.content.specs.declared.Read.{Read}
 use Rattle.content.specs.declared.Read.the-variants as read
-use Rattle.content.specs.declared.Header.{Header}
-use Rattle.content.specs.declared.Header.the-variants as header
+use Rattle.header.specs.declared.Header.{Header}
+use Rattle.header.specs.declared.Header.the-variants as header
 use Rattle.content.specs.declared.Part.{Part}
 use Rattle.content.specs.declared.Part.the-variants as part
 use Rattle.entry.specs.Entries.{endOf, isInlined, placeAt, keyPlaceAt, pointedAt, typedEntry, entryOf, entryAt, entryRead, keyEntryAt, keyRead, valueStart}

@@ -30,15 +30,16 @@ use Rattle.value.specs.declared.Number.{Number}
 use Rattle.value.specs.declared.Scalar.the-variants as scalar
 use Rattle.value.specs.declared.Span.{Span}
 use Rattle.value.specs.declared.View.{View}
-use Rattle.content.specs.Reading.{kind, viewed, headerAt, containerAt, scalarOf, literalOf, literalAt, numberAt, partAt, partOf, stringAt, opaqueOf, opaqueAt, contentAt, readAt, placeFault, placed}
-use Rattle.content.specs.Course.{Within}
+use Rattle.content.specs.Reading.{kind, viewed, containerAt, scalarOf, literalOf, literalAt, numberAt, partAt, partOf, stringAt, opaqueOf, opaqueAt, contentAt, readAt}
+use Rattle.header.specs.Headers.{headerAt, placeFault, placed}
+use Rattle.header.specs.Course.{Within}
 use Rattle.content.specs.declared.Read.{Read}
 use Rattle.content.specs.declared.Read.the-variants as read
 use Rattle.content.specs.declared.Part.{Part}
 use Rattle.content.specs.declared.Part.the-variants as part
-use Rattle.content.specs.declared.Header.{Header}
-use Rattle.content.specs.declared.Header.the-variants as header
-use Rattle.content.proofs.Placed.{placed-fault, placed-right, placed-within, right-place}
+use Rattle.header.specs.declared.Header.{Header}
+use Rattle.header.specs.declared.Header.the-variants as header
+use Rattle.header.proofs.Placed.{placed-fault, placed-right, placed-within, right-place}
 use Rattle.entry.specs.Entries.{endOf, isInlined, pointedAt, typedEntry}
 use Rattle.events.specs.Events.{span, kindCode, bytesOf}
 use Rattle.events.proofs.Cases.{bytes-some}

@@ -32,14 +32,15 @@ use Rattle.value.specs.declared.Scalar.the-variants as scalar
 use Rattle.value.specs.declared.Value.{Value}
 use Rattle.value.specs.declared.Value.the-variants as value
 use Rattle.value.specs.declared.View.{View}
-use Rattle.content.specs.Reading.{kind, span, headerAt, viewed, containerAt, scalarOf, literalOf, literalAt, numberAt, parted, partAt, partOf, stringAt, opaqueOf, opaqueAt, contentAt, readAt, placeFault, placed}
-use Rattle.content.specs.Course.{Within}
+use Rattle.content.specs.Reading.{kind, span, viewed, containerAt, scalarOf, literalOf, literalAt, numberAt, parted, partAt, partOf, stringAt, opaqueOf, opaqueAt, contentAt, readAt}
+use Rattle.header.specs.Headers.{headerAt, placeFault, placed}
+use Rattle.header.specs.Course.{Within}
 use Rattle.content.specs.declared.Read.{Read}
 use Rattle.content.specs.declared.Read.the-variants as read
 use Rattle.content.specs.declared.Part.{Part}
 use Rattle.content.specs.declared.Part.the-variants as part
-use Rattle.content.specs.declared.Header.the-variants as header
-use Rattle.content.proofs.Placed.{right-place}
+use Rattle.header.specs.declared.Header.the-variants as header
+use Rattle.header.proofs.Placed.{right-place}
 use Rattle.entry.specs.Entries.{endOf, isInlined, placeAt, valueEnd, pointedAt, typedEntry, entryOf, entryAt, entryRead}
 use Rattle.jsonb.specs.Views.{typedAt, rootRead}
 use Rattle.sight.specs.Course.{SoundScalar, Fit}

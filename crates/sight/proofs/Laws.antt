@@ -12,7 +12,7 @@ use Rattle.codes.specs.declared.types.TypeOf.the-variants as type-of
 use Rattle.layout.specs.Layout.{offsetSize, offsetAt}
 use Rattle.value.specs.declared.View.{View}
 use Rattle.value.specs.declared.Value.the-variants as value
-use Rattle.content.specs.Reading.{placeFault, placed}
+use Rattle.header.specs.Headers.{placeFault, placed}
 use Rattle.content.specs.declared.Read.{Read}
 use Rattle.content.specs.declared.Read.the-variants as read
 use Rattle.entry.specs.Entries.{endOf, placeAt, valueEnd, pointedAt, typedEntry, entryOf, entryAt, entryRead, startOf, typedStart, valueStart}

@@ -14,13 +14,13 @@ use Rattle.value.specs.declared.View.{View}
 use Rattle.value.specs.declared.Scalar.{Scalar}
 use Rattle.value.specs.declared.Value.{Value}
 use Rattle.value.specs.declared.Value.the-variants as value
-use Rattle.content.specs.Course.{Within}
+use Rattle.header.specs.Course.{Within}
 use Rattle.content.specs.declared.Read.{Read}
 use Rattle.content.specs.declared.Read.the-variants as read
 use Rattle.content.specs.declared.Part.{Part}
 use Rattle.content.specs.declared.Part.the-variants as part
-use Rattle.content.specs.declared.Header.{Header}
-use Rattle.content.specs.declared.Header.the-variants as header
+use Rattle.header.specs.declared.Header.{Header}
+use Rattle.header.specs.declared.Header.the-variants as header
 use Rattle.entry.specs.Entries.{endOf, entryOf}
 use Rattle.events.specs.Events.{span, bytesOf, scalarPart}
 use Rattle.events.specs.Text.{isText, scalarText}

@@ -11,7 +11,8 @@ use Rattle.codes.specs.declared.types.TypeOf.the-variants as type-of
 use Rattle.layout.specs.Layout.{offsetSize, offsetAt}
 use Rattle.value.specs.declared.Span.{Span}
 use Rattle.value.specs.declared.View.{View}
-use Rattle.content.specs.Reading.{kind, view, placed}
+use Rattle.content.specs.Reading.{kind, view}
+use Rattle.header.specs.Headers.{placed}
 use Rattle.content.specs.declared.Read.{Read}
 use Rattle.content.specs.declared.Read.the-variants as read
 use Rattle.entry.specs.Entries.{endOf, isInlined, entryOf}

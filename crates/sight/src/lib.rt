@@ -16,8 +16,9 @@ ghost use lib.ListN.{length, getD, take, drop};
 ghost use Rattle.raw.specs.Numbers.{value};
 ghost use Rattle.codes.specs.Types.{typeOf};
 ghost use Rattle.layout.specs.Layout.{offsetSize, offsetAt};
-ghost use Rattle.content.specs.Reading.{literalAt, opaqueAt, partAt, headerAt, kind};
-ghost use Rattle.content.specs.Course.{Within};
+ghost use Rattle.content.specs.Reading.{literalAt, opaqueAt, partAt, kind};
+ghost use Rattle.header.specs.Headers.{headerAt};
+ghost use Rattle.header.specs.Course.{Within};
 ghost use Rattle.entry.specs.Entries.{typedEntry};
 ghost use Rattle.events.specs.Events.{bytesOf, span};
 ghost use Rattle.sight.specs.Sights.{sight, refusedSight, sightOf, bounds, startBy, sightAt};
@@ -304,13 +305,13 @@ pub fn sight_at(doc: &[u8], large: bool, start: u32, size: u32, place: usize) ->
 {
     let end = start as usize + size as usize;
     if end < place {
-        return refused(content::place_fault(doc, place, end));
+        return refused(header::place_fault(doc, place, end));
     }
     let k = Kind {
         object: false,
         large,
     };
-    let fault = content::place_fault(doc, place + 1 + k.offset_size(), end);
+    let fault = header::place_fault(doc, place + 1 + k.offset_size(), end);
     if fault != 0 {
         return refused(fault);
     }

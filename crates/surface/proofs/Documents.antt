@@ -9,9 +9,9 @@ use lib.ListN.{length}
 use borrow.Author.Tests.{lt-ltb, le-ltb}
 use Rattle.refusal.specs.Told.{Told, answer}
 use Rattle.layout.proofs.Cond.{yes, no}
-use Rattle.content.specs.Reading.{placeFault, headerRead, headerAt}
-use Rattle.content.specs.declared.Header.{Header}
-use Rattle.content.specs.declared.Header.the-variants as header
+use Rattle.header.specs.Headers.{placeFault, headerRead, headerAt}
+use Rattle.header.specs.declared.Header.{Header}
+use Rattle.header.specs.declared.Header.the-variants as header
 use Rattle.gate.specs.Said.{Said, refuses}
 use Rattle.gate.specs.Before.{names, matches, gated}
 use Rattle.events.specs.declared.Walked.{Walked}

@@ -22,8 +22,8 @@ use Rattle.layout.specs.Layout.{offsetSize, keyEntry, offsetAt}
 use Rattle.layout.specs.declared.Kind.{Kind}
 use Rattle.content.specs.Reading.{kind, view}
 use Rattle.layout.proofs.Inside.{key-inside}
-use Rattle.content.specs.Course.{Within}
-use Rattle.content.proofs.Placed.{placed-within}
+use Rattle.header.specs.Course.{Within}
+use Rattle.header.proofs.Placed.{placed-within}
 use Rattle.entry.specs.Entries.{endOf, placeAt, keyOf, keyPlaceAt, keyEnd, keyEntryAt, entryRead, keyRead, valueStart}
 use Rattle.gate.specs.Said.{Said, says, readSaid, partSaid}
 use Rattle.jsonb.specs.Views.{rootRead}

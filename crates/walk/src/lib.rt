@@ -12,7 +12,7 @@ ghost use lib.ListN.{length, take, drop};
 ghost use Rattle.raw.specs.Numbers.{value as valueOf};
 ghost use Rattle.layout.specs.Layout.{offsetSize, keyEntry, offsetAt};
 ghost use Rattle.value.specs.declared.Value.the-variants.{Container};
-ghost use Rattle.content.specs.Course.{Within};
+ghost use Rattle.header.specs.Course.{Within};
 ghost use Rattle.content.specs.Reading.{kind};
 ghost use Rattle.entry.specs.Entries.{endOf, keyOf};
 ghost use Rattle.events.specs.Text.{isText};

@@ -38,11 +38,12 @@ use Rattle.value.specs.declared.Scalar.{Scalar}
 use Rattle.value.specs.declared.Scalar.the-variants as scalar
 use Rattle.value.specs.declared.Value.{Value}
 use Rattle.value.specs.declared.Value.the-variants as value
-use Rattle.content.specs.Reading.{kind, viewed, containerAt, headerAt, literalOf, literalAt, numberAt, parted, partAt, partOf, stringAt}
-use Rattle.content.specs.Reading.{opaqueOf, opaqueAt, contentAt, placeFault, readAt}
+use Rattle.content.specs.Reading.{kind, viewed, containerAt, literalOf, literalAt, numberAt, parted, partAt, partOf, stringAt}
+use Rattle.content.specs.Reading.{opaqueOf, opaqueAt, contentAt, readAt}
+use Rattle.header.specs.Headers.{headerAt, placeFault}
 use Rattle.content.specs.declared.Read.{Read}
 use Rattle.content.specs.declared.Read.the-variants as read
-use Rattle.content.specs.declared.Header.{Header}
+use Rattle.header.specs.declared.Header.{Header}
 use Rattle.content.specs.declared.Part.{Part}
 use Rattle.content.proofs.Placed.{no-value}
 use Rattle.entry.specs.Entries.{endOf, isInlined, placeAt, keyPlaceAt, pointedAt, typedEntry, entryOf, entryAt, keyOffset, keyLength, keyOf, keyEntryAt}

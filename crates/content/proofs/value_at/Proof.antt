@@ -2,7 +2,7 @@
 -- Assumes nothing.
 use Rattle.content.specs.Reading.{readAt}
 use Rattle.content.specs.declared.Read.the-variants.{Refused}
-use Rattle.content.proofs.Placed.{placed-fault, placed-right, right-place}
+use Rattle.header.proofs.Placed.{placed-fault, placed-right, right-place}
 use borrow.Author.Needs.{needs}
 use Rattle.content.proofs.value_at.Statement.{statement}
 use Rattle.content.proofs.value_at.Tie as tie

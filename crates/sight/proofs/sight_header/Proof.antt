@@ -2,7 +2,7 @@
 -- Assumes nothing.
 use mathlib.Core.Path.{ap, _∙_}
 use Rattle.layout.specs.Layout.{offsetAt}
-use Rattle.content.proofs.Cases.{head-short, head-over, head-low, head-whole}
+use Rattle.header.proofs.Cases.{head-short, head-over, head-low, head-whole}
 use Rattle.sight.specs.Course.{headerSight}
 use Rattle.sight.proofs.Cases.{count-there, size-there}
 use borrow.Author.Needs.{needs}

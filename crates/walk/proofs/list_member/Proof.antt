@@ -3,7 +3,7 @@
 use Rattle.walk.proofs.Cases.{member-key, key-within, key-bad, key-refused, entry-stopped, entry-small, entry-open, entry-listed}
 use Rattle.gate.specs.Said.{partSaid}
 use Rattle.entry.specs.Entries.{endOf}
-use Rattle.content.specs.Course.{Within}
+use Rattle.header.specs.Course.{Within}
 use Rattle.layout.specs.declared.Kind.{Kind}
 use Rattle.layout.specs.Layout.{keyEntry, keyPlace, valuePlace}
 use borrow.Author.Tests.{not-true, not-false}

@@ -2,10 +2,10 @@
 -- Assumes nothing.
 use mathlib.Core.Path.{refl}
 use borrow.Author.Tests.{lt-ltb, le-ltb}
-use Rattle.content.specs.Reading.{placeFault}
+use Rattle.header.specs.Headers.{placeFault}
 use Rattle.layout.proofs.Cond.{yes, no}
-use Rattle.content.proofs.place_fault.Statement.{statement}
-use Rattle.content.proofs.place_fault.Tie as tie
+use Rattle.header.proofs.place_fault.Statement.{statement}
+use Rattle.header.proofs.place_fault.Tie as tie
 
 returns : tie.Need-returns
 unfolding placeFault

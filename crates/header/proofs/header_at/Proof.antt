@@ -1,11 +1,11 @@
 -- A place with a fault is refused with its number, and any other is one where the header can be read.
 -- Assumes nothing.
-use Rattle.content.specs.Reading.{headerRead}
-use Rattle.content.specs.declared.Header.the-variants.{Refused}
-use Rattle.content.proofs.Placed.{placed-fault, placed-right, right-place}
+use Rattle.header.specs.Headers.{headerRead}
+use Rattle.header.specs.declared.Header.the-variants.{Refused}
+use Rattle.header.proofs.Placed.{placed-fault, placed-right, right-place}
 use borrow.Author.Needs.{needs}
-use Rattle.content.proofs.header_at.Statement.{statement}
-use Rattle.content.proofs.header_at.Tie as tie
+use Rattle.header.proofs.header_at.Statement.{statement}
+use Rattle.header.proofs.header_at.Tie as tie
 
 place-fault-requires : tie.Need-place-fault-requires
 place-fault-requires c κs = search needs

@@ -1,9 +1,9 @@
 -- Each test on the way is one of the definition, in its order.
 -- Assumes nothing.
-use Rattle.content.proofs.Cases.{head-short, head-over, head-low, head-whole}
+use Rattle.header.proofs.Cases.{head-short, head-over, head-low, head-whole}
 use borrow.Author.Needs.{needs}
-use Rattle.content.proofs.read_header.Statement.{statement}
-use Rattle.content.proofs.read_header.Tie as tie
+use Rattle.header.proofs.read_header.Statement.{statement}
+use Rattle.header.proofs.read_header.Tie as tie
 
 sub-left : tie.Need-sub-left
 sub-left c = search needs
