@@ -13,7 +13,7 @@ use borrow.Author.Tests.{le-ltb, lt-ltb, eq-eqb, ne-eqb, ltb-true}
 use Rattle.layout.proofs.Cond.{yes, no}
 use Rattle.layout.specs.declared.Kind.{Kind}
 use Rattle.codes.specs.declared.types.JsonbType.{JsonbType}
-use Rattle.utf8.specs.Course.{checked}
+use Rattle.utf8.specs.Answer.{checked}
 use Rattle.utf8.specs.declared.Utf8Check.{Utf8Check}
 use Rattle.value.specs.declared.Span.{Span}
 use Rattle.value.specs.declared.Value.{Value}

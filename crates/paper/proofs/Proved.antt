@@ -22,7 +22,7 @@ use Rattle.entry.specs.Entries.{pointedAt, typedEntry, entryAt, keyOf, keyEntry
 use Rattle.gate.specs.Said.{Said}
 use Rattle.jsonb.specs.Views.{rootRead, elemAt, keyAt}
 use Rattle.gate.specs.Before.{matches, gated}
-use Rattle.utf8.specs.Course.{lead, run}
+use Rattle.rfc3629.specs.Machine.{lead, run}
 use Rattle.events.specs.Events.{kindCode, bytesFrom}
 use Rattle.events.specs.Text.{isText}
 use Rattle.paths.specs.Paths.{gather, tree, paths, lastOf, said, scan}

@@ -13,10 +13,11 @@ use borrow.Author.Tests.{ltb-true, ltb-false, le-leb}
 use Rattle.pairs.specs.Pairs.{tail, right, Rights}
 use Rattle.pairs.specs.Pairs as pairs
 use Rattle.pairs.proofs.Pairs.{by, no, tail-up, tail-there, lead-there, behind-lead, behind-other, shorter, inside}
-use Rattle.utf8.specs.declared.Utf8Check.{Utf8Check}
-use Rattle.utf8.specs.Course.{State, start, more, to, next, run, Runs}
-use Rattle.utf8.proofs.Steps.{step, lead1, lead2}
-use Rattle.utf8.proofs.Steps as steps
+use Rattle.rfc3629.specs.Machine.{State, start, more, to, Verdict, next, run}
+use Rattle.rfc3629.proofs.Steps.{lead1, lead2}
+use Rattle.rfc3629.proofs.Steps as steps
+use Rattle.utf8.specs.Course.{Runs}
+use Rattle.utf8.proofs.Steps.{step}
 
 -- the state before a byte, by whether it is a second one
 abbrev awaits : Bool → State
@@ -53,7 +54,7 @@ turn a b e =
     ∙ ap (λ (x : Bool). to (awaits x)) (sym (v .1))))
 
 module _ (s : List ℕ) where
-  abbrev at-place : ℕ → Utf8Check
+  abbrev at-place : ℕ → Verdict
   at-place k = run (awaits (tail (getD s k 0))) k (drop k s)
 
   further : (k j : ℕ) → j ≡ k + 1 → k < length s → right (getD s k 0) (getD s (k + 1) 0) ≡ true → at-place k ≡ at-place j

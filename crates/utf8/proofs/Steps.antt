@@ -11,27 +11,19 @@ use native.Mathlib.Omega.{arith}
 use lib.Dec.{ltb, leb}
 use lib.ListN.{length, getD, drop, drop-of-length-le}
 use lib.Seq.{drop-cons, drop-drop}
-use borrow.Author.Tests.{ltb-true, ltb-false, lt-ltb, le-ltb, leb-true, leb-false, eq-eqb, ne-eqb, not-true, not-false}
+use borrow.Author.Tests.{ltb-true, ltb-false, leb-true, leb-false, eq-eqb, ne-eqb, not-true, not-false}
 use Rattle.ascii.specs.Ascii.{low, asciiEnd, front}
 use Rattle.ascii.proofs.Low.{by, low-yes, low-no, front-le}
-use Rattle.utf8.specs.declared.Utf8Check.the-variants.{Bad}
+use Rattle.rfc3629.specs.Machine.{State, start, more, to, stop, bad, least, most, lead, follow, next, ended, run}
+use Rattle.rfc3629.proofs.Steps.{enter, halt, below, above, inside, lead1}
 use Rattle.utf8.specs.declared.Step.{Step}
 use Rattle.utf8.specs.declared.Step.the-variants.{Next, Stop}
-use Rattle.utf8.specs.Course.{State, start, more, Move, to, stop, least, most, lead, follow, next, onward, ended, run, Runs, Takes, Fit, Leads, on, off}
-use Rattle.utf8.specs.Rfc3629.{Within}
+use Rattle.utf8.specs.Course.{Runs, Takes, Fit, Leads, on, off}
 
 no : {A : Type 0} → false ≡ true → A
 no e = absurd (let z : _≡_ {A = ℕ} 0 1 = cc in omega arith)
 
--- ---- a byte
-pub enter : (st st' : State) (b : ℕ) (bs : List ℕ) (at : ℕ) → next st b ≡ to st' → run st at (b ∷ bs) ≡ run st' (at + 1) bs
-unfolding run
-enter st st' b bs at e = ap (λ (m : Move). onward m (λ st''. run st'' (at + 1) bs) (Bad at)) e
-
-pub halt : (st : State) (b : ℕ) (bs : List ℕ) (at : ℕ) → next st b ≡ stop → run st at (b ∷ bs) ≡ Bad at
-unfolding run
-halt st b bs at e = ap (λ (m : Move). onward m (λ st''. run st'' (at + 1) bs) (Bad at)) e
-
+-- ---- a place
 module _ (st : State) (s : List ℕ) (at : ℕ) where
   -- at the end
   pub out : length s ≤ at → run st at (drop at s) ≡ ended st at
@@ -46,45 +38,8 @@ module _ (st : State) (s : List ℕ) (at : ℕ) where
       ∙ ap (λ (k : ℕ). run st' (at + 1) (drop k s)) (sym (add-one at))
       ∙ ap (λ (k : ℕ). run st' k (drop k s)) (sym e)
 
-  rest : at < length s → next st (getD s at 0) ≡ stop → run st at (drop at s) ≡ Bad at
+  rest : at < length s → next st (getD s at 0) ≡ stop → run st at (drop at s) ≡ bad at
   rest h n = ap (run st at) (drop-cons s at 0 h) ∙ halt st (getD s at 0) (drop (suc at) s) at n
-
-module _ (k lo hi b : ℕ) where
-  pub below : b < lo → next (more k lo hi) b ≡ stop
-  below h = simp (lt-ltb b lo h)
-
-  pub above : lo ≤ b → hi < b → next (more k lo hi) b ≡ stop
-  above g h = simp (le-ltb b lo g, lt-ltb hi b h)
-
-  pub inside : Within lo hi b → next (more k lo hi) b ≡ to (follow k)
-  inside w = simp (le-ltb b lo (w .0), le-ltb hi b (w .1))
-
--- ---- a first byte
-module _ (b : ℕ) where
-  pub lead1 : b < 128 → lead b ≡ to start
-  unfolding lead
-  lead1 h = simp (lt-ltb b 128 h)
-
-  pub lead-low : 128 ≤ b → b < 194 → lead b ≡ stop
-  unfolding lead
-  lead-low g h = simp (le-ltb b 128 g, lt-ltb b 194 h)
-
-  pub lead2 : 194 ≤ b → b < 224 → lead b ≡ to (more 0 128 191)
-  unfolding lead
-  lead2 g h = simp (le-ltb b 128 (omega arith), le-ltb b 194 g, lt-ltb b 224 h)
-
-  pub lead3 : 224 ≤ b → b < 240 → lead b ≡ to (more 1 (least b 224 160) (most b 237 159))
-  unfolding lead
-  lead3 g h = simp (le-ltb b 128 (omega arith), le-ltb b 194 (omega arith), le-ltb b 224 g, lt-ltb b 240 h)
-
-  pub lead4 : 240 ≤ b → b ≤ 244 → lead b ≡ to (more 2 (least b 240 144) (most b 244 143))
-  unfolding lead
-  lead4 g h =
-      simp (le-ltb b 128 (omega arith), le-ltb b 194 (omega arith), le-ltb b 224 (omega arith), le-ltb b 240 g, lt-ltb b 245 (omega arith))
-
-  pub lead-high : 244 < b → lead b ≡ stop
-  unfolding lead
-  lead-high g = simp (le-ltb b 128 (omega arith), le-ltb b 194 (omega arith), le-ltb b 224 (omega arith), le-ltb b 240 (omega arith), le-ltb b 245 (omega arith))
 
 -- ---- places where a character begins
 pub stay : (s : List ℕ) (at : ℕ) → at ≤ length s → Runs s at at
@@ -187,7 +142,7 @@ module _ {j : ℕ} {lo hi : ℕ} {s : List ℕ} {at : ℕ} {r : Bool} where
 
 pub fit-none : (k : ℕ) (s : List ℕ) (at : ℕ) → 0 < k → at < length s → lead (getD s at 0) ≡ stop → Fit k s at 0
 fit-none k s at g h l =
-    record { whole = λ n. absurd (omega arith); part = λ n. rest start s at h l ∙ ap Bad (sym (add-zero at)) }
+    record { whole = λ n. absurd (omega arith); part = λ n. rest start s at h l ∙ ap bad (sym (add-zero at)) }
 
 -- ---- the answers of steps
 module _ {from : ℕ} {s : List ℕ} {at : ℕ} where
@@ -197,8 +152,8 @@ module _ {from : ℕ} {s : List ℕ} {at : ℕ} where
   pub led : {r : Step} {j : ℕ} → r ≡ Next j → Leads from s at r → (from ≤ j) × Runs s at j
   led e l = next-place (subst (Leads from s at) e l)
 
-  stop-place : {p : ℕ} → Leads from s at (Stop p) → run start at (drop at s) ≡ Bad p
+  stop-place : {p : ℕ} → Leads from s at (Stop p) → run start at (drop at s) ≡ bad p
   stop-place (off e) = e
 
-  pub stopped : {r : Step} {p : ℕ} → r ≡ Stop p → Leads from s at r → run start at (drop at s) ≡ Bad p
+  pub stopped : {r : Step} {p : ℕ} → r ≡ Stop p → Leads from s at r → run start at (drop at s) ≡ bad p
   stopped e l = stop-place (subst (Leads from s at) e l)

@@ -1,2 +1,2 @@
-pub mod Rfc3629
+pub mod Answer
 pub mod Course

@@ -3,8 +3,9 @@
 ghost use mathlib.Core.Path.{_≡_};
 ghost use Prim.Native.Nat.{_+_, _≤_, _<_};
 ghost use lib.ListN.{length, getD};
-ghost use Rattle.utf8.specs.Course.{least, most, checked, Runs, Takes, Fit, Leads};
-ghost use Rattle.utf8.specs.Rfc3629.{Tells};
+ghost use Rattle.rfc3629.specs.Machine.{least, most};
+ghost use Rattle.utf8.specs.Answer.{Tells, checked};
+ghost use Rattle.utf8.specs.Course.{Runs, Takes, Fit, Leads};
 use ascii::ascii_end;
 use ascii::front8;
 use ascii::front64;

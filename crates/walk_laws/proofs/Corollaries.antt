@@ -7,7 +7,7 @@ use Prim.Native.Nat.{ℕ, zero, suc, _+_, _*_, _-_, _≤_, _<_}
 use native.Mathlib.Omega.{arith}
 use lib.ListN.{length, drop, length-append, length-drop, length-map}
 use borrow.Author.Tests.{lt-ltb}
-use Rattle.utf8.specs.Rfc3629.{none}
+use Rattle.rfc3629.specs.Grammar.{none}
 use Rattle.codes.specs.declared.types.JsonbType.the-variants as type
 use Rattle.value.specs.declared.Scalar.the-variants as scalar
 use Rattle.value.specs.declared.Value.the-variants as value

@@ -9,10 +9,10 @@ use native.Mathlib.Omega.{arith}
 use lib.Dec.{ltb}
 use lib.ListN.{length}
 use borrow.Author.Tests.{ltb-false, le-ltb}
-use Rattle.utf8.specs.Course.{checked}
+use Rattle.utf8.specs.Answer.{checked}
 use Rattle.utf8.specs.declared.Utf8Check.{Utf8Check}
 use Rattle.utf8.specs.declared.Utf8Check.the-variants.{Valid, Bad}
-use Rattle.utf8.proofs.Grammar.{valid}
+use Rattle.utf8.proofs.Answers.{valid}
 use Rattle.value.specs.declared.Span.{Span}
 use Rattle.value.specs.declared.Scalar.{Scalar}
 use Rattle.value.specs.declared.Scalar.the-variants as scalar

@@ -9,7 +9,7 @@ use mathlib.Core.Logic.{_↔_, _⊎_}
 use mathlib.Core.List.{List, [], _∷_, _++_, map, List·Memᴰ}
 use lib.Dec.{eqb}
 use lib.ListN.{length, take, drop}
-use Rattle.utf8.specs.Rfc3629.{Utf8}
+use Rattle.rfc3629.specs.Grammar.{Utf8}
 use Rattle.codes.specs.declared.types.JsonbType.the-variants as type
 use Rattle.value.specs.declared.Span.{Span}
 use Rattle.value.specs.declared.Scalar.{Scalar}

@@ -2,7 +2,8 @@
 -- Assumes nothing.
 use native.Mathlib.Omega.{arith}
 use lib.Dec.{lit<}
-use Rattle.utf8.proofs.Steps.{lead4, lead-high, begun, onto, fit-none, fit-part, fit-whole}
+use Rattle.rfc3629.proofs.Steps.{lead4, lead-high}
+use Rattle.utf8.proofs.Steps.{begun, onto, fit-none, fit-part, fit-whole}
 use borrow.Author.Needs.{needs}
 use Rattle.utf8.proofs.fit_four.Statement.{statement}
 use Rattle.utf8.proofs.fit_four.Tie as tie

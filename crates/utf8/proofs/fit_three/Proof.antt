@@ -2,7 +2,8 @@
 -- Assumes nothing.
 use native.Mathlib.Omega.{arith}
 use lib.Dec.{lit<}
-use Rattle.utf8.proofs.Steps.{lead3, begun, onto, fit-part, fit-whole}
+use Rattle.rfc3629.proofs.Steps.{lead3}
+use Rattle.utf8.proofs.Steps.{begun, onto, fit-part, fit-whole}
 use borrow.Author.Needs.{needs}
 use Rattle.utf8.proofs.fit_three.Statement.{statement}
 use Rattle.utf8.proofs.fit_three.Tie as tie

@@ -2,7 +2,8 @@
 -- Assumes nothing.
 use native.Mathlib.Omega.{arith}
 use lib.Dec.{lit<}
-use Rattle.utf8.proofs.Steps.{lead-low, lead2, begun, fit-none, fit-part, fit-whole}
+use Rattle.rfc3629.proofs.Steps.{lead-low, lead2}
+use Rattle.utf8.proofs.Steps.{begun, fit-none, fit-part, fit-whole}
 use borrow.Author.Needs.{needs}
 use Rattle.utf8.proofs.fit_two.Statement.{statement}
 use Rattle.utf8.proofs.fit_two.Tie as tie

@@ -1,4 +1,4 @@
--- What is passed, ASCII and whole characters, leaves the machine's answer as it is, and behind a part of a character the machine stops.
+-- What is passed, ASCII and whole characters, leaves the machine's verdict as it is, and behind a part of a character the machine stops.
 -- Assumes nothing.
 use Prim.Native.Nat.{_-_}
 use mathlib.Core.Path.{_∙_}

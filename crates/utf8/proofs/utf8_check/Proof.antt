@@ -1,9 +1,10 @@
--- What `quick` and then `char_at` pass leaves the machine's answer as it is, and its answer is the one that tells.
+-- What `quick` and then `char_at` pass leaves the machine's verdict as it is, and the answer that says the same is the one that tells.
 -- Assumes nothing.
 use Prim.Native.Nat.{_-_}
-use mathlib.Core.Path.{sym, _∙_}
+use mathlib.Core.Path.{_∙_}
 use native.Mathlib.Omega.{arith}
 use lib.ListN.{length}
+use Rattle.rfc3629.specs.Machine.{ok, bad}
 use Rattle.utf8.specs.Course.{Runs}
 use Rattle.utf8.proofs.Steps.{out, then, led, stopped}
 use Rattle.utf8.proofs.Answers.{told}
@@ -27,7 +28,7 @@ enum-known-p : tie.Need-enum-known-p Inv-loop μ-loop
 enum-known-p c = search needs
 
 returns : tie.Need-returns Inv-loop μ-loop
-returns c = told (sym (stopped (c .before .p .given .1) (c .before .before .before .quick .ensures)))
+returns c = told (bad _) (stopped (c .before .p .given .1) (c .before .before .before .quick .ensures))
 
 loop-holds : tie.Need-loop-holds Inv-loop μ-loop
 loop-holds c = led (c .before .j .given .1) (c .before .before .before .quick .ensures) .1
@@ -48,10 +49,10 @@ enum-known-p-2 : tie.Need-enum-known-p-2 Inv-loop μ-loop
 enum-known-p-2 c = search needs
 
 returns-2 : tie.Need-returns-2 Inv-loop μ-loop
-returns-2 c = told (sym (c .before .before .before .before .before .loop .inv .same ∙ stopped (c .before .p2 .given .1) (c .before .before .before .char-at .ensures)))
+returns-2 c = told (bad _) (c .before .before .before .before .before .loop .inv .same ∙ stopped (c .before .p2 .given .1) (c .before .before .before .char-at .ensures))
 
 returns-3 : tie.Need-returns-3 Inv-loop μ-loop
-returns-3 c = told (sym (c .before .loop .inv .same ∙ out _ _ _ (c .loop-test .left)))
+returns-3 c = told ok (c .before .loop .inv .same ∙ out _ _ _ (c .loop-test .left))
 
 pub utf8-check-spec : {M : Type 1} → statement M
 utf8-check-spec =

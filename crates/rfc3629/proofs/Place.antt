@@ -9,13 +9,11 @@ use native.Mathlib.Omega.{arith}
 use lib.Dec.{ltb, lit≤}
 use lib.ListN.{length, length-append}
 use borrow.Author.Tests.{ltb-true, ltb-false}
-use Rattle.utf8.specs.declared.Utf8Check.the-variants.{Bad}
-use Rattle.utf8.specs.Course.{State, start, more, Move, to, stop, lead, follow, onward, run, checked}
-use Rattle.utf8.specs.Rfc3629.{Within, Char, utf8-1, none, and, Begins, Unfinished, Stuck, Breaks}
-use Rattle.ascii.proofs.Low.{by}
-use Rattle.utf8.proofs.Steps.{enter, halt, below, above, inside}
-use Rattle.utf8.proofs.Grammar.{Row, row-1, row-2, row-E0, row-E1, row-ED, row-EE, row-F0, row-F1, row-F4, no-row, row, Tails, last, then, makes}
-use Rattle.utf8.proofs.Grammar.{made-so, asked, utf8-run}
+use Rattle.rfc3629.specs.Machine.{State, start, more, Move, to, stop, bad, lead, follow, onward, run, verdict}
+use Rattle.rfc3629.specs.Grammar.{Within, Char, utf8-1, none, and, Begins, Unfinished, Stuck, Breaks}
+use Rattle.rfc3629.proofs.Steps.{by, enter, halt, below, above, inside}
+use Rattle.rfc3629.proofs.Grammar.{Row, row-1, row-2, row-E0, row-E1, row-ED, row-EE, row-F0, row-F1, row-F4, no-row, row, Tails, last, then, makes}
+use Rattle.rfc3629.proofs.Grammar.{made-so, asked, utf8-run}
 
 -- ---- inside a character
 -- m is begun, and the bytes that make it whole are those that the state asks for
@@ -101,7 +99,7 @@ record Found (m s : List ℕ) (at p : ℕ) : Type 0 where
   breaks : Breaks (m ++ s) place
   shift : p + length m ≡ at + place
 
-here : (m s : List ℕ) (at p : ℕ) → Bad at ≡ Bad p → Unfinished m → Stuck m s → Found m s at p
+here : (m s : List ℕ) (at p : ℕ) → bad at ≡ bad p → Unfinished m → Stuck m s → Found m s at p
 here m s at p e u k =
     let f : at ≡ p = cc in
     record {
@@ -146,17 +144,17 @@ data In : List ℕ → State → Type 0 where
   outside : In [] start
   within : {m : List ℕ} {k lo hi : ℕ} → Inside m k lo hi → In m (more k lo hi)
 
-module _ (b : ℕ) (s : List ℕ) (at p : ℕ) (ih : (st : State) (m : List ℕ) → In m st → run st (at + 1) s ≡ Bad p → Found m s (at + 1) p) where
-  first : (m : Move) → lead b ≡ m → onward m (λ st. run st (at + 1) s) (Bad at) ≡ Bad p → Found [] (b ∷ s) at p
+module _ (b : ℕ) (s : List ℕ) (at p : ℕ) (ih : (st : State) (m : List ℕ) → In m st → run st (at + 1) s ≡ bad p → Found m s (at + 1) p) where
+  first : (m : Move) → lead b ≡ m → onward m (λ st. run st (at + 1) s) (bad at) ≡ bad p → Found [] (b ∷ s) at p
   first (to start) l e = past (makes b l refl) (ih start [] outside e)
   first (to (more k lo hi)) l e = onto (ih (more k lo hi) (b ∷ []) (within (first-inside b l)) e)
   first stop l e = here [] (b ∷ s) at p e (0, [], utf8-1 (omega arith)) (λ x. asked l (made-so (x .1)))
 
-  later : {m : List ℕ} (k : ℕ) {lo hi : ℕ} → Inside m k lo hi → Within lo hi b → run (follow k) (at + 1) s ≡ Bad p → Found m (b ∷ s) at p
+  later : {m : List ℕ} (k : ℕ) {lo hi : ℕ} → Inside m k lo hi → Within lo hi b → run (follow k) (at + 1) s ≡ bad p → Found m (b ∷ s) at p
   later zero i w e = past (i .gives (last w)) (ih start [] outside e)
   later {m} (suc k) i w e = onto (ih (more k 128 191) (m ++ (b ∷ [])) (within (next-inside i w)) e)
 
-find : (s : List ℕ) (st : State) (m : List ℕ) (at p : ℕ) → In m st → run st at s ≡ Bad p → Found m s at p
+find : (s : List ℕ) (st : State) (m : List ℕ) (at p : ℕ) → In m st → run st at s ≡ bad p → Found m s at p
 unfolding run
 find [] start m at p i e = absurd (let z : _≡_ {A = ℕ} 0 1 = cc in omega arith)
 find [] (more k lo hi) m at p (within i) e = here m [] at p e (opened i) (i .filled)
@@ -167,14 +165,14 @@ find (b ∷ s) (more k lo hi) m at p (within i) e =
     by (ltb hi b) (λ u. let h = ltb-true hi b u in here m (b ∷ s) at p (simp (t, u) at e) (opened i) (blocked b i (λ w. omega arith)))
     (λ u. later b s at p (λ st n. find s st n (at + 1) p) k i (ltb-false b lo t, ltb-false hi b u) (simp (t, u) at e)))
 
-breaks-there : (s : List ℕ) (p : ℕ) → checked s ≡ Bad p → Breaks s p
+breaks-there : (s : List ℕ) (p : ℕ) → verdict s ≡ bad p → Breaks s p
 breaks-there s p e =
     let f = find s start [] 0 p outside e in
     let g : f .place ≡ p = omega (arith, f .shift) in
     subst (Breaks s) g (f .breaks)
 
 -- ---- a break is a stop
-at-once : (rest : List ℕ) {m : List ℕ} (k lo hi at : ℕ) → Inside m k lo hi → Stuck m rest → run (more k lo hi) at rest ≡ Bad at
+at-once : (rest : List ℕ) {m : List ℕ} (k lo hi at : ℕ) → Inside m k lo hi → Stuck m rest → run (more k lo hi) at rest ≡ bad at
 unfolding run
 at-once [] k lo hi at i st = refl
 at-once (b ∷ r) k lo hi at i st =
@@ -183,8 +181,8 @@ at-once (b ∷ r) k lo hi at i st =
     by (ltb hi b) (λ u. halt (more k lo hi) b r at (above k lo hi b (ltb-false b lo t) (ltb-true hi b u)))
     (λ u. absurd (st (goes-on k i (ltb-false b lo t, ltb-false hi b u)))))
 
-through : (x rest m : List ℕ) (k lo hi at : ℕ) → Inside m k lo hi → Unfinished (m ++ x) → Stuck (m ++ x) rest → run (more k lo hi) at (x ++ rest) ≡ Bad (at + length x)
-through [] rest m k lo hi at i u st = at-once rest k lo hi at i (subst (λ (l : List ℕ). Stuck l rest) (append-nil m) st) ∙ ap Bad (sym (add-zero at))
+through : (x rest m : List ℕ) (k lo hi at : ℕ) → Inside m k lo hi → Unfinished (m ++ x) → Stuck (m ++ x) rest → run (more k lo hi) at (x ++ rest) ≡ bad (at + length x)
+through [] rest m k lo hi at i u st = at-once rest k lo hi at i (subst (λ (l : List ℕ). Stuck l rest) (append-nil m) st) ∙ ap bad (sym (add-zero at))
 through (b ∷ x) rest m zero lo hi at i u st =
     let t = i .needs (subst Char (append-assoc m (b ∷ x) (u .0 ∷ u .1)) (u .2)) in
     absurd (omega (arith, simp length-append at (size t)))
@@ -194,32 +192,32 @@ through (b ∷ x) rest m (suc k) lo hi at i u st =
     let e : at + 1 + length x ≡ at + suc (length x) = omega arith in
     enter (more (suc k) lo hi) (more k 128 191) b (x ++ rest) at (inside (suc k) lo hi b w)
     ∙ through x rest (m ++ (b ∷ [])) k 128 191 (at + 1) (next-inside i w) (subst⁻¹ Unfinished a u) (subst⁻¹ (λ (l : List ℕ). Stuck l rest) a st)
-    ∙ ap Bad e
+    ∙ ap bad e
 
-from-start : (g rest : List ℕ) (at : ℕ) → Unfinished g → Stuck g rest → run start at (g ++ rest) ≡ Bad (at + length g)
+from-start : (g rest : List ℕ) (at : ℕ) → Unfinished g → Stuck g rest → run start at (g ++ rest) ≡ bad (at + length g)
 from-start [] [] at u st = absurd (st refl)
 from-start [] (b ∷ r) at u st = go (lead b) refl
   where
-    go : (m : Move) → lead b ≡ m → run start at (b ∷ r) ≡ Bad (at + 0)
+    go : (m : Move) → lead b ≡ m → run start at (b ∷ r) ≡ bad (at + 0)
     go (to start) l = absurd (st ([], makes b l refl))
     go (to (more k lo hi)) l = absurd (let o = opened (first-inside b l) in st (o .0 ∷ o .1, o .2))
-    go stop l = halt start b r at l ∙ ap Bad (sym (add-zero at))
+    go stop l = halt start b r at l ∙ ap bad (sym (add-zero at))
 from-start (a ∷ x) rest at u st = go (lead a) refl
   where
-    go : (m : Move) → lead a ≡ m → run start at (a ∷ (x ++ rest)) ≡ Bad (at + suc (length x))
+    go : (m : Move) → lead a ≡ m → run start at (a ∷ (x ++ rest)) ≡ bad (at + suc (length x))
     go (to start) l = absurd (omega (arith, ap length (asked l (made-so (u .2))), length-append x (u .0 ∷ u .1)))
     go (to (more k lo hi)) l =
         let e : at + 1 + length x ≡ at + suc (length x) = omega arith in
-        enter start (more k lo hi) a (x ++ rest) at l ∙ through x rest (a ∷ []) k lo hi (at + 1) (first-inside a l) u st ∙ ap Bad e
+        enter start (more k lo hi) a (x ++ rest) at l ∙ through x rest (a ∷ []) k lo hi (at + 1) (first-inside a l) u st ∙ ap bad e
     go stop l = absurd (asked l (made-so (u .2)))
 
-stops-there : (s : List ℕ) (p : ℕ) → Breaks s p → checked s ≡ Bad p
+stops-there : (s : List ℕ) (p : ℕ) → Breaks s p → verdict s ≡ bad p
 stops-there s p f =
     let e : 0 + length (f .before) + length (f .begun) ≡ p = omega (arith, f .place) in
     ap (run start 0) (f .split)
     ∙ utf8-run (f .whole) (f .begun ++ f .rest) 0
     ∙ from-start (f .begun) (f .rest) (0 + length (f .before)) (f .unfinished) (f .stuck)
-    ∙ ap Bad e
+    ∙ ap bad e
 
-pub broken : (s : List ℕ) (p : ℕ) → (checked s ≡ Bad p → Breaks s p) × (Breaks s p → checked s ≡ Bad p)
+pub broken : (s : List ℕ) (p : ℕ) → (verdict s ≡ bad p → Breaks s p) × (Breaks s p → verdict s ≡ bad p)
 broken s p = (breaks-there s p, stops-there s p)

@@ -1,4 +1,4 @@
--- The machine and the grammar agree: what a first byte asks for is what the characters have that begin with it. So the machine answers Valid
+-- The machine and the grammar agree: what a first byte asks for is what the characters have that begin with it. So its verdict is ok
 -- exactly for what the grammar has.
 -- Assumes nothing.
 use Prim.Native.Nat.{ℕ, zero, suc, _+_, _≤_, _<_}
@@ -8,12 +8,10 @@ use native.Mathlib.Omega.{arith}
 use lib.Dec.{ltb, eqb}
 use lib.ListN.{length, length-append}
 use borrow.Author.Tests.{ltb-true, ltb-false, eqb-true, eqb-false, ne-eqb}
-use Rattle.utf8.specs.declared.Utf8Check.the-variants.{Valid, Bad}
-use Rattle.utf8.specs.Course.{State, start, more, Move, to, stop, lead, follow, onward, run, checked}
-use Rattle.utf8.specs.Rfc3629.{Within, Char, utf8-1, utf8-2, utf8-3-E0, utf8-3-E1-EC, utf8-3-ED, utf8-3-EE-EF, utf8-4-F0, utf8-4-F1-F3, utf8-4-F4, Utf8}
-use Rattle.utf8.specs.Rfc3629.{none, and}
-use Rattle.ascii.proofs.Low.{by}
-use Rattle.utf8.proofs.Steps.{enter, inside, lead1, lead-low, lead2, lead3, lead4, lead-high}
+use Rattle.rfc3629.specs.Machine.{State, start, more, Move, to, stop, ok, bad, lead, follow, onward, run, verdict}
+use Rattle.rfc3629.specs.Grammar.{Within, Char, utf8-1, utf8-2, utf8-3-E0, utf8-3-E1-EC, utf8-3-ED, utf8-3-EE-EF, utf8-4-F0, utf8-4-F1-F3, utf8-4-F4, Utf8}
+use Rattle.rfc3629.specs.Grammar.{none, and}
+use Rattle.rfc3629.proofs.Steps.{by, enter, inside, lead1, lead-low, lead2, lead3, lead4, lead-high}
 
 -- ---- the range of a second byte
 module _ (b : ℕ) where
@@ -161,7 +159,7 @@ utf8-run (and {c} {s = d} x u) s at =
     ∙ utf8-run u s (at + length c)
     ∙ ap (λ (n : ℕ). run start n s) (omega (arith, length-append c d))
 
-pub complete : {s : List ℕ} → Utf8 s → (at : ℕ) → run start at s ≡ Valid
+pub complete : {s : List ℕ} → Utf8 s → (at : ℕ) → run start at s ≡ ok
 unfolding run
 complete {s} u at = ap (run start at) (sym (append-nil s)) ∙ utf8-run u [] at
 
@@ -170,15 +168,15 @@ data Ends : State → List ℕ → Type 0 where
   begin : {s : List ℕ} → Utf8 s → Ends start s
   within : {k lo hi : ℕ} {q t : List ℕ} → Tails k lo hi q → Utf8 t → Ends (more k lo hi) (q ++ t)
 
-never : {A : Type 0} {p : ℕ} → Bad p ≡ Valid → A
+never : {A : Type 0} {p : ℕ} → bad p ≡ ok → A
 never e = absurd (let z : _≡_ {A = ℕ} 0 1 = cc in omega arith)
 
 joined : {st : State} {b : ℕ} {bs : List ℕ} → lead b ≡ to st → Ends st bs → Utf8 (b ∷ bs)
 joined {b = b} l (begin u) = and (makes b l refl) u
 joined {b = b} l (within x u) = and (makes b l x) u
 
-first : (b : ℕ) (bs : List ℕ) (at : ℕ) (m : Move) → lead b ≡ m → onward m (λ st. run st (at + 1) bs) (Bad at) ≡ Valid
-    → ((st : State) → run st (at + 1) bs ≡ Valid → Ends st bs)
+first : (b : ℕ) (bs : List ℕ) (at : ℕ) (m : Move) → lead b ≡ m → onward m (λ st. run st (at + 1) bs) (bad at) ≡ ok
+    → ((st : State) → run st (at + 1) bs ≡ ok → Ends st bs)
     → Utf8 (b ∷ bs)
 first b bs at (to st) l e f = joined l (f st e)
 first b bs at stop l e f = never e
@@ -187,7 +185,7 @@ grow : (k : ℕ) {lo hi b : ℕ} {bs : List ℕ} → Within lo hi b → Ends (fo
 grow zero w (begin u) = within (last w) u
 grow (suc k) w (within t u) = within (then w t) u
 
-sound : (st : State) (s : List ℕ) (at : ℕ) → run st at s ≡ Valid → Ends st s
+sound : (st : State) (s : List ℕ) (at : ℕ) → run st at s ≡ ok → Ends st s
 unfolding run
 sound start [] at e = begin none
 sound (more k lo hi) [] at e = never e
@@ -201,5 +199,5 @@ sound (more k lo hi) (b ∷ bs) at e =
 ends : {s : List ℕ} → Ends start s → Utf8 s
 ends (begin u) = u
 
-pub valid : (s : List ℕ) → (checked s ≡ Valid → Utf8 s) × (Utf8 s → checked s ≡ Valid)
+pub valid : (s : List ℕ) → (verdict s ≡ ok → Utf8 s) × (Utf8 s → verdict s ≡ ok)
 valid s = (λ e. ends (sound start s 0 e), λ u. complete u 0)

@@ -4,8 +4,6 @@ use Prim.Native.Nat.{ℕ, _+_, _≤_}
 use mathlib.Core.Path.{_≡_}
 use mathlib.Core.List.{List, [], _∷_, _++_}
 use lib.ListN.{length}
-use Rattle.utf8.specs.declared.Utf8Check.{Utf8Check}
-use Rattle.utf8.specs.declared.Utf8Check.the-variants.{Valid, Bad}
 
 -- %xLO-HI of the RFC
 abbrev pub Within : ℕ → ℕ → ℕ → Type 0
@@ -56,8 +54,3 @@ pub record Breaks (s : List ℕ) (p : ℕ) : Type 0 where
   pub whole : Utf8 before
   pub unfinished : Unfinished begun
   pub stuck : Stuck begun rest
-
--- The answer r tells of s: Valid exactly if s is UTF-8, and Bad p exactly if s breaks at p.
-pub record Tells (s : List ℕ) (r : Utf8Check) : Type 0 where
-  pub valid : (r ≡ Valid → Utf8 s) × (Utf8 s → r ≡ Valid)
-  pub broken : (p : ℕ) → (r ≡ Bad p → Breaks s p) × (Breaks s p → r ≡ Bad p)
