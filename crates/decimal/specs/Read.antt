@@ -1,15 +1,15 @@
 -- What reading a packed decimal answers (decimal.c of MySQL; document 01, 'Decimal rules'). The groups are read by `readGroups` of the crate
--- groups, with its refusals 20, 21 and 22; here stand the sign, the precision that is kept or not, and the packed header.
+-- groups, with its refusals 20, 21 and 22; what is left of them without kept precision is `withoutLeading` of the crate kept; here stand the sign
+-- and the packed header.
 -- Assumes nothing.
-use Prim.Native.Nat.{ℕ, _+_, _-_, _*_}
+use Prim.Native.Nat.{ℕ, _+_, _-_}
 use mathlib.Core.Bool.{Bool, true, false, cond}
 use mathlib.Core.List.{List, [], _∷_}
 use lib.Dec.{ltb, eqb}
-use lib.ListN.{getD}
-use Rattle.groups.specs.Numbers.{tab, leadingIn}
-use Rattle.groups.specs.Layout.{groupsOf, formOf}
+use Rattle.groups.specs.Layout.{formOf}
 use Rattle.groups.specs.Read.{readGroups, zeros}
 use Rattle.groups.specs.declared.Groups.{Groups}
+use Rattle.kept.specs.Kept.{withoutLeading}
 use Rattle.decimal.specs.declared.Decimal.{Decimal}
 use Rattle.decimal.specs.declared.Answer.{Answer}
 
@@ -26,14 +26,10 @@ nought = record { intg = 1; frac = 0; sign = false; groups = zeros }
 unfoldable pub decimalOf : ℕ → ℕ → Bool → List ℕ → Decimal
 decimalOf i f neg gs = cond (eqb (i + f) 0) nought (record { intg = i; frac = f; sign = neg; groups = gs })
 
--- without its first z integral groups. Past the first all integral groups are whole
-unfoldable pub without : ℕ → ℕ → ℕ → Bool → List ℕ → Decimal
-without z i f neg gs = cond (eqb z 0) (decimalOf i f neg gs) (decimalOf (9 * (groupsOf i - z)) f neg (tab 9 (λ k. getD gs (k + z) 0)))
-
 -- with kept precision as it was read, and else without the leading integral groups that are zero
 unfoldable pub finished : Bool → ℕ → ℕ → Bool → List ℕ → Decimal
 finished true i f neg gs = decimalOf i f neg gs
-finished false i f neg gs = without (leadingIn (groupsOf i) gs) i f neg gs
+finished false i f neg gs = decimalOf (withoutLeading i gs .intg) f neg (withoutLeading i gs .groups)
 
 abbrev pub refused : ℕ → Answer
 refused n = record { refusal = n; decimal = nought }

@@ -22,7 +22,9 @@ use Rattle.groups.proofs.Tab.{tab-at, length-tab, all-each}
 use Rattle.numeral.specs.Read.{strip, minus, unsigned, run, pointed, wholePart, fractionPart, isText, fewDigits}
 use Rattle.numeral.specs.Read.{Numeral, digitOf, digitsIn as textDigits, noNumeral, numeralOf, readUnsigned, readText}
 use Rattle.numeral.proofs.Limits.{read-within}
-use Rattle.decimal.specs.Read.{negative, nought, decimalOf, without, finished, fromGroups, readBin, readPacked}
+use Rattle.kept.specs.Kept.{without}
+use Rattle.kept.specs.declared.Kept.{Kept}
+use Rattle.decimal.specs.Read.{negative, nought, decimalOf, finished, fromGroups, readBin, readPacked}
 use Rattle.decimal.specs.Write.{isWell}
 use Rattle.decimal.specs.Text.{ofDigits, ofNumeral, parseText}
 use Rattle.decimal.specs.declared.Decimal.{Decimal}
@@ -105,7 +107,10 @@ module _ (P : Decimal → Type 0) (none : P nought) where
       z : ℕ
       z = leadingIn (groupsOf i) gs
 
-      go : (t : Bool) → eqb z 0 ≡ t → P (cond t (decimalOf i f neg gs) (decimalOf (left i z) f neg (later z gs)))
+      kept : Bool → Kept
+      kept t = cond t (record { intg = i; groups = gs }) (record { intg = left i z; groups = later z gs })
+
+      go : (t : Bool) → eqb z 0 ≡ t → P (decimalOf (kept t .intg) f neg (kept t .groups))
       go true e = decimal-holds i f neg gs whole
       go false e = decimal-holds (left i z) f neg (later z gs) (less z (pos-of-ne-zero (eqb-false z 0 e)) (leading-le (groupsOf i) gs))
 

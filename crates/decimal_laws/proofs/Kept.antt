@@ -19,7 +19,9 @@ use Rattle.groups.specs.Read.{groupAt, storedAt, readGroups}
 use Rattle.groups.proofs.Accept.{in-range}
 use Rattle.groups.proofs.Tab.{tab-at, length-tab, filled}
 use Rattle.groups.proofs.Opened.{opened, reads}
-use Rattle.decimal.specs.Read.{negative, nought, decimalOf, without, finished, refused, accepted, fromGroups, readBin, readPacked}
+use Rattle.kept.specs.Kept.{without}
+use Rattle.kept.specs.declared.Kept.{Kept}
+use Rattle.decimal.specs.Read.{negative, nought, decimalOf, finished, refused, accepted, fromGroups, readBin, readPacked}
 use Rattle.order.specs.Value.{magnitude, signed}
 use Rattle.decimal.specs.Value.{value}
 use Rattle.decimal.specs.declared.Decimal.{Decimal}
@@ -105,9 +107,13 @@ groups-le : (i : ℕ) → i ≤ 65 → groupsOf i ≤ 9
 unfolding groupsOf
 groups-le i h = omega arith
 
-either-value : (t : Bool) (a b : Decimal) → value b ≡ value a → value (cond t a b) ≡ value a
-either-value true a b h = refl
-either-value false a b h = h
+-- the decimal of what is kept, with f digits after the point
+abbrev of-kept : ℕ → Bool → Kept → Decimal
+of-kept f neg k = decimalOf (k .intg) f neg (k .groups)
+
+either-value : (f : ℕ) (neg : Bool) (t : Bool) (a b : Kept) → value (of-kept f neg b) ≡ value (of-kept f neg a) → value (of-kept f neg (cond t a b)) ≡ value (of-kept f neg a)
+either-value f neg true a b h = refl
+either-value f neg false a b h = h
 
 -- where there is no fraction, every group past the integral ones is 0
 abbrev Ends : ℕ → ℕ → List ℕ → Type 0
@@ -138,7 +144,7 @@ module _ (i f : ℕ) (neg : Bool) (gs : List ℕ) (e : length gs ≡ 9) (l : i �
 
   same-finished : value (finished false i f neg gs) ≡ value (finished true i f neg gs)
   unfolding finished without
-  same-finished = either-value (eqb (leadingIn (groupsOf i) gs) 0) (decimalOf i f neg gs) _ (without-value ∙ sym kept-value)
+  same-finished = either-value f neg (eqb (leadingIn (groupsOf i) gs) 0) (record { intg = i; groups = gs }) _ (without-value ∙ sym kept-value)
 
 -- ---- groups that were read are such: a place past the last group has no digits
 none-wide : (F : Form) → wideOf F 0 ≡ 0

@@ -18,7 +18,8 @@ use Rattle.groups.proofs.Accept.{in-range}
 use Rattle.groups.proofs.Marks.{length-in}
 use Rattle.groups.proofs.Sizes.{packed-size, size-pos}
 use Rattle.groups.proofs.Tab.{tab-at, length-tab, filled}
-use Rattle.decimal.specs.Read.{negative, nought, decimalOf, without, finished, refused, accepted, fromGroups, readBin, readPacked}
+use Rattle.kept.specs.Kept.{without}
+use Rattle.decimal.specs.Read.{negative, nought, decimalOf, finished, refused, accepted, fromGroups, readBin, readPacked}
 use Rattle.decimal_laws.proofs.Bytes.{after}
 use Rattle.decimal_laws.proofs.Places.{range-front, stored-front}
 

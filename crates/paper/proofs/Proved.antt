@@ -8,7 +8,8 @@ use Rattle.groups.specs.Packed.{flip, flipFirst, digitsIn}
 use Rattle.groups.specs.Read.{inRange, groupAt, rangeAt, unitOf, storedAt, groupsIn, readGroups}
 use Rattle.groups.specs.Write.{digitsOk, wellAt, wellFormed, groupDigits, digitsTo}
 use Rattle.printing.specs.Print.{unpadded, wholeDigits, fractionText}
-use Rattle.decimal.specs.Read.{negative, decimalOf, without, finished, fromGroups, readBin, readPacked}
+use Rattle.kept.specs.Kept.{without}
+use Rattle.decimal.specs.Read.{negative, decimalOf, finished, fromGroups, readBin, readPacked}
 use Rattle.decimal.specs.Text.{printed}
 use Rattle.raw.specs.Numbers.{value, le}
 use Rattle.length_field.specs.Length.{groups}

@@ -1,10 +1,9 @@
--- The refusals are those of the groups, whose success bounds the precision and the scale.
+-- The refusals are those of the groups, whose success bounds the scale by the precision.
 -- Assumes nothing.
 use denote.Ref.{now}
 use Prim.Native.Nat.{_-_, _≤_}
 use mathlib.Core.Path.{_≡_, sym, _∙_, ap}
 use mathlib.Core.Bool.{Bool}
-use native.Mathlib.Omega.{arith}
 use Rattle.groups.specs.Layout.{formOf}
 use Rattle.groups.specs.Read.{readGroups}
 use Rattle.groups.specs.declared.Groups.{Groups}
@@ -28,11 +27,10 @@ read-as : (c : tie.After-read)
 unfolding readBin
 read-as c = simp (groups-are c, c .before .is-negative .ensures)
 
-ranges : (c : tie.After-read) → c .read .result .refusal ≡ 0
-    → let a = c .before .before .before .args in (a .precision ≤ 65) × ((a .scale ≤ 30) × (a .scale ≤ a .precision))
-ranges c e =
+scale-fits : (c : tie.After-read) → c .read .result .refusal ≡ 0 → let a = c .before .before .before .args in a .scale ≤ a .precision
+scale-fits c e =
     let a = c .before .before .before .args in
-    in-range _ _ (opened _ (now (a .bytes)) (a .precision) (a .scale) (ap (λ (g : Groups). g .refusal) (sym (groups-are c)) ∙ e) .0)
+    in-range _ _ (opened _ (now (a .bytes)) (a .precision) (a .scale) (ap (λ (g : Groups). g .refusal) (sym (groups-are c)) ∙ e) .0) .1 .1
 
 is-negative-requires : tie.Need-is-negative-requires
 is-negative-requires c κs = search needs
@@ -50,10 +48,10 @@ returns c =
     c .refuse .ensures ∙ sym (groups-refused (g .read .result) (a .precision - a .scale) (a .scale) (g .before .is-negative .result) (a .keep) (c .before .if1 .taken)) ∙ read-as g
 
 sub-finish : tie.Need-sub-finish
-sub-finish c = ranges (c .before .before .before) (c .before .if1 .left) .1 .1
+sub-finish c = scale-fits (c .before .before .before) (c .before .if1 .left)
 
 finish-requires : tie.Need-finish-requires
-finish-requires c κs = let h = ranges (c .before .before .before) (c .before .if1 .left) in omega arith
+finish-requires c κs = search needs
 
 returns-2 : tie.Need-returns-2
 returns-2 c =

@@ -1,22 +1,16 @@
--- No digit left is tested first.
--- Assumes what the contract requires, and nothing else.
-use mathlib.Core.Path.{sym}
-use borrow.Author.Tests.{eq-eqb, ne-eqb}
-use Rattle.decimal.specs.Read.{decimalOf}
-use borrow.Author.Needs.{needs}
+-- No digit is left exactly if there is none on either side.
+-- Assumes nothing.
+use mathlib.Core.Logic.{⊎-elim}
+use borrow.Author.Tests.{eqb-true, eqb-false}
+use Rattle.decimal.proofs.Cases.{no-digit, digit-before, digit-after}
 use Rattle.decimal.proofs.reader.decimal_of.Statement.{statement}
 use Rattle.decimal.proofs.reader.decimal_of.Tie as tie
 
-add-if1 : tie.Need-add-if1
-add-if1 c = search needs
-
 returns : tie.Need-returns
-unfolding decimalOf
-returns c = sym (simp (eq-eqb _ _ (c .if1 .taken)))
+returns c = no-digit _ _ _ _ (c .before .if1 .taken) (eqb-true _ _ (c .if2 .taken))
 
 returns-2 : tie.Need-returns-2
-unfolding decimalOf
-returns-2 c = sym (simp (ne-eqb _ _ (c .if1 .left)))
+returns-2 c = ⊎-elim (λ t. digit-after _ _ _ _ (eqb-false _ _ (t .1 .left))) (λ t. digit-before _ _ _ _ (t .left)) (c .if1 .came)
 
 pub decimal-of-spec : {M : Type 1} → statement M
-decimal-of-spec = tie.close (tie.spec add-if1 returns returns-2)
+decimal-of-spec = tie.close (tie.spec returns returns-2)

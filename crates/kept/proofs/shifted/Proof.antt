@@ -8,8 +8,8 @@ use denote.Ref.{now}
 use lib.ListN.{length, getD, length-set}
 use borrow.Author.Count.{below-none}
 use Rattle.groups.proofs.Tab.{fill-more, filled}
-use Rattle.decimal.proofs.reader.shifted.Statement.{statement}
-use Rattle.decimal.proofs.reader.shifted.Tie as tie
+use Rattle.kept.proofs.shifted.Statement.{statement}
+use Rattle.kept.proofs.shifted.Tie as tie
 
 abbrev Inv-loop : tie.InvT-loop
 Inv-loop groups z out₀ k₀ out k = (k ≤ 9) × ((length out ≡ 9) × ((j : ℕ) → j < k → getD out j 0 ≡ getD groups (j + z) 0))

@@ -5,8 +5,8 @@ use native.Mathlib.Omega.{arith}
 use mathlib.Core.Path.{sym}
 use lib.ListN.{List·getD-eq-default}
 use borrow.Author.Needs.{needs}
-use Rattle.decimal.proofs.reader.group_or_zero.Statement.{statement}
-use Rattle.decimal.proofs.reader.group_or_zero.Tie as tie
+use Rattle.kept.proofs.group_or_zero.Statement.{statement}
+use Rattle.kept.proofs.group_or_zero.Tie as tie
 
 mul-result : tie.Need-mul-result
 mul-result c = search needs
