@@ -1,9 +1,7 @@
-// The entries of a container: the value and the key at a position, by the container's view.
+// The value entries of a container: the value at a position, by the container's view.
 use codes::JsonbType;
 use codes::TypeOf;
-use content::Part;
 use content::Read;
-use value::Span;
 use value::View;
 ghost use mathlib.Core.Path.{_≡_};
 ghost use Prim.Native.Nat.{_+_, _<_};
@@ -11,7 +9,7 @@ ghost use lib.ListN.{length, getD};
 ghost use Rattle.codes.specs.Types.{typeOf};
 ghost use Rattle.layout.specs.Layout.{offsetSize};
 ghost use Rattle.header.specs.Course.{Within};
-ghost use Rattle.entry.specs.Entries.{endOf, isInlined, placeAt, pointedAt, typedEntry, entryOf, keyOf, entryRead, keyRead};
+ghost use Rattle.entry.specs.Entries.{endOf, isInlined, placeAt, pointedAt, typedEntry, entryOf, entryRead};
 
 // Whether values of a type stand in their entry.
 fn is_inlined(t: JsonbType, large: bool) -> bool
@@ -88,42 +86,6 @@ pub fn read_entry(doc: &[u8], v: View, i: u32) -> Read
         return Read::Refused(fault);
     }
     read_at(doc, v, at)
-}
-
-// The key of an entry at a place.
-fn key_at_place(doc: &[u8], v: View, place: usize) -> Part
-    requires { ⌜ Within (length (now doc)) place (endOf v) ⌝ }
-    ensures { λ r. ⌜ r ≡ keyOf (now (doc .entry)) v place ⌝ }
-{
-    let k = v.kind;
-    let start = v.start as usize;
-    let end = start + v.size as usize;
-    let offset = layout::offset_at(doc, k, place, end) as usize;
-    let len = raw::u16_at(doc, place + k.offset_size(), end) as usize;
-    if offset < k.header_size(v.count) {
-        return Part::Refused(refusal::KEY);
-    }
-    if (v.size as usize) < offset + len {
-        return Part::Refused(refusal::KEY);
-    }
-    Part::Bytes(Span {
-        start: (start + offset) as u32,
-        len: len as u32,
-    })
-}
-
-// The key of entry i.
-pub fn read_key(doc: &[u8], v: View, i: u32) -> Part
-    ensures { λ r. ⌜ r ≡ keyRead (now (doc .entry)) v i ⌝ }
-{
-    let k = v.kind;
-    let start = v.start as usize;
-    let place = start + k.key_place(i);
-    let fault = header::place_fault(doc, place + k.key_entry(), start + v.size as usize);
-    if fault != 0 {
-        return Part::Refused(fault);
-    }
-    key_at_place(doc, v, place)
 }
 
 // Where value entry i stands.

@@ -29,7 +29,7 @@ pub fn key_at(doc: &[u8], v: View, pos: u32) -> Key
 {
     let k = v.kind;
     match gate_at(doc, v, k.object, pos) {
-        Gate::Open => key_of(entry::read_key(doc, v, pos)),
+        Gate::Open => key_of(keys::read_key(doc, v, pos)),
         Gate::Nothing => Key::Nothing,
         Gate::Refused(n) => Key::Refused(n),
     }

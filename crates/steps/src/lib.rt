@@ -92,7 +92,7 @@ impl Keys {
         let k = v.kind;
         let i = self.at;
         match gate_at(doc, v, k.object, i) {
-            Gate::Open => key_step(key_of(entry::read_key(doc, v, i)), v, i + 1),
+            Gate::Open => key_step(key_of(keys::read_key(doc, v, i)), v, i + 1),
             Gate::Nothing => key_step(Key::Nothing, v, i),
             Gate::Refused(n) => key_step(Key::Refused(n), v, i),
         }
@@ -121,7 +121,7 @@ fn with_value(s: Span, r: Read) -> Member
 fn read_member(doc: &[u8], v: View, i: u32) -> Member
     ensures { λ r. ⌜ memberSaid r ≡ memberOf (partSaid (keyRead (now (doc .entry)) v i)) (readSaid (entryRead (now (doc .entry)) v i)) ⌝ }
 {
-    match entry::read_key(doc, v, i) {
+    match keys::read_key(doc, v, i) {
         Part::Bytes(s) => with_value(s, entry::read_entry(doc, v, i)),
         Part::Refused(n) => Member::Refused(n),
     }

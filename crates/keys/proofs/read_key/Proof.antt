@@ -1,9 +1,9 @@
 -- A view or an entry that the document has not is refused; any other key is read at the place of its entry.
 -- Assumes nothing.
 use Rattle.entry.proofs.Cases.{key-fault, key-placed, key-right}
 use borrow.Author.Needs.{needs}
-use Rattle.entry.proofs.read_key.Statement.{statement}
-use Rattle.entry.proofs.read_key.Tie as tie
+use Rattle.keys.proofs.read_key.Statement.{statement}
+use Rattle.keys.proofs.read_key.Tie as tie
 
 cast-start : tie.Need-cast-start
 cast-start c = search needs

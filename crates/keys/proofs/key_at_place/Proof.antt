@@ -1,9 +1,9 @@
 -- The offset and the length are those of the key's entry, and each test on the way is one of the definition.
 -- Assumes nothing.
 use Rattle.entry.proofs.Cases.{key-low, key-over, key-read}
 use borrow.Author.Needs.{needs}
-use Rattle.entry.proofs.key_at_place.Statement.{statement}
-use Rattle.entry.proofs.key_at_place.Tie as tie
+use Rattle.keys.proofs.key_at_place.Statement.{statement}
+use Rattle.keys.proofs.key_at_place.Tie as tie
 
 cast-start : tie.Need-cast-start
 cast-start c = search needs
