@@ -152,7 +152,7 @@ uint32_t bratthelm_element_count(const uint8_t *doc, size_t doc_len, uint32_t co
 uint32_t bratthelm_walk(const uint8_t *doc, size_t doc_len, uint32_t *events, size_t events_len, uint32_t *answer, size_t answer_len);
 
 /* The decimal in the digit bytes at the front, of a precision and a scale, a row of a decimal: 20, 21, 22. With keep other than 0 it keeps its
- * precision, so that bratthelm_decimal_write_bin gives the bytes back; to show it, read it with 0. */
+ * precision, so that bratthelm_decimal_write_bin gives the bytes back (of a precision of 1 or more); to show it, read it with 0. */
 uint32_t bratthelm_decimal_read_bin(const uint8_t *bytes, size_t bytes_len, uint32_t precision, uint32_t scale, uint32_t keep, uint32_t *answer,
                                     size_t answer_len);
 

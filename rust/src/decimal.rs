@@ -28,7 +28,7 @@ fn narrow(n: usize) -> u32 {
 impl Decimal {
     /// The decimal in the digit bytes at the front, as in a row event: 20, 21, 22. Later bytes are not read.
     ///
-    /// With `keep_precision` it has the digits of the precision, so that [`Decimal::write_bin`] gives the bytes back; to show it, read it with `false`.
+    /// With `keep_precision` it has the digits of the precision, so that [`Decimal::write_bin`] gives the bytes back (of a precision of 1 or more); to show it, read it with `false`.
     pub fn read_bin(bytes: &[u8], precision: usize, scale: usize, keep_precision: bool) -> Result<Decimal, Refusal> {
         let mut numbers = [0; NUMBERS];
         answered(calls::decimal_read_bin(bytes, narrow(precision), narrow(scale), keep_precision.into(), &mut numbers))?;

@@ -1,4 +1,6 @@
 // answers: reads requests from standard input, one to a line, and writes one line for each.
+mod answer;
+
 use libc::STDERR_FILENO;
 use libc::STDIN_FILENO;
 use output::flush;

@@ -1,4 +1,4 @@
--- What private functions do on the way, here and in `writing`, and what laws name; no public promise rests on it.
+-- What private functions of `formed` and `writing` do on the way, and what laws name; no public promise rests on it.
 -- Assumes nothing.
 use Prim.Native.Nat.{ℕ, zero, suc, _+_}
 use mathlib.Core.Bool.{Bool, cond}

@@ -3,8 +3,8 @@
 use mathlib.Core.Path.{sym}
 use lib.Seq.{length-take-le}
 use borrow.Author.Needs.{needs}
-use Rattle.answer.proofs.from_front.Statement.{statement}
-use Rattle.answer.proofs.from_front.Tie as tie
+use Rattle.answers.proofs.answer.from_front.Statement.{statement}
+use Rattle.answers.proofs.answer.from_front.Tie as tie
 
 slice-aggregate-from-bytes : tie.Need-slice-aggregate-from-bytes
 slice-aggregate-from-bytes c = sym (length-take-le _ _ (search needs))

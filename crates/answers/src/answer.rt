@@ -118,7 +118,7 @@ fn put_asked(out: &mut [u8], at: usize, asked: Asked, line: &[u8], from: usize) 
 }
 
 // The answer to a line of at most 65,536 bytes that comes without its end.
-pub fn put_line(out: &mut [u8], at: usize, line: &[u8]) -> usize {
+pub(crate) fn put_line(out: &mut [u8], at: usize, line: &[u8]) -> usize {
     let end = request::find(line, 0, 32);
     let asked = asked::asked_in(line, end);
     let next = put_asked(out, at, asked, line, asked::after(end));
