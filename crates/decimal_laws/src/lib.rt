@@ -1,1 +1,1 @@
-// Laws of decimals that rest on the definitions of the crates groups, numeral, printing and decimal alone: see proofs/. There is no code here.
+// Laws of decimals that rest on the definitions of the crates groups, kept, numeral, printing, order and decimal alone: see proofs/. There is no code here.

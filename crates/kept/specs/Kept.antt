@@ -14,7 +14,7 @@ use Rattle.kept.specs.declared.Kept.{Kept}
 unfoldable pub without : ℕ → ℕ → List ℕ → Kept
 without z i gs = cond (eqb z 0) (record { intg = i; groups = gs }) (record { intg = 9 * (groupsOf i - z); groups = tab 9 (λ k. getD gs (k + z) 0) })
 
--- without the leading integral groups that are zero. No decimal has more than nine groups; digits that would take more, above 81, keep those
--- past the nine that are there, so at most nine groups are dropped whatever i is
+-- without the leading integral groups that are zero. This is said of every i: digits above 81 would take more groups than the nine that there
+-- are, and of those at most the nine are dropped
 abbrev pub withoutLeading : ℕ → List ℕ → Kept
 withoutLeading i gs = without (leadingIn (groupsOf i) gs) i gs
