@@ -2,9 +2,11 @@
 mod reader;
 
 pub use groups::Counted;
+// The bytes that a decimal of this precision and scale takes, by the name that it has in the Rust.
+pub use groups::size as decimal_bin_size;
 pub use order::Compared;
 ghost use mathlib.Core.Path.{_≡_};
-ghost use Rattle.groups.specs.Write.{sizeOf, told as countTold};
+ghost use Rattle.groups.specs.Write.{told as countTold};
 ghost use Rattle.order.specs.Value.{told};
 ghost use Rattle.decimal.specs.Read.{readBin, readPacked};
 ghost use Rattle.decimal.specs.Write.{binSize, writeBin, binLeaves};
@@ -24,13 +26,6 @@ pub struct Decimal {
 pub struct Answer {
     pub refusal: u8,
     pub decimal: Decimal,
-}
-
-// The bytes that a decimal of this precision and scale takes.
-pub fn decimal_bin_size(precision: usize, scale: usize) -> Counted
-    ensures { λ r. ⌜ countTold r ≡ sizeOf precision scale ⌝ }
-{
-    groups::size(precision, scale)
 }
 
 impl Decimal {
