@@ -7,7 +7,7 @@ use mathlib.Core.List.{List, [], _∷_, _++_}
 use Prim.Native.Nat.{ℕ, zero, suc, _+_, _-_, _*_, _/_, _%_, _^_, _≤_, _<_, min}
 use native.Mathlib.Nat.{not-suc-le-zero, le-of-suc-le-suc, eq-or-lt-of-le, pow-zero, pow-suc, div-add-mod', div-lt-iff-lt-mul, lt-of-lt-of-le, mul-one, mul-assoc, mod-le, le-of-eq, le-refl}
 use native.Mathlib.Omega.{arith}
-use lib.Dec.{leb, ltb, leb→le, lit<}
+use lib.Dec.{ltb, lit<}
 use lib.ListN.{length, getD, take, drop, length-drop, List·getD-append}
 use lib.Seq.{take-append-le, drop-append-le, take-all, drop-at, getD-take}
 use borrow.Author.Tests.{ltb-true, ltb-false, eqb-true, lt-ltb}
@@ -16,21 +16,13 @@ use Rattle.groups.specs.Layout.{width, groupsOf, side, formOf, baseOf, wideOf, 
 use Rattle.groups.specs.Read.{groupAt, rangeAt, storedAt, unitOf}
 use Rattle.groups.specs.Write.{groupDigits, digitsTo, wellAt, wellFormed, digitsOk}
 use Rattle.groups.proofs.Accept.{both-true}
-use Rattle.groups.proofs.Finite.{at}
 use Rattle.groups.proofs.Tab.{all-each}
-use Rattle.groups.proofs.Radix.{number-snoc, length-digits}
+use Rattle.groups.proofs.Radix.{number-digits, length-digits}
+use Rattle.groups.proofs.Widths.{ten-fits, sign-fits}
 use Rattle.groups.proofs.Places.{within, offset-more, offset-mono, digits-le}
 use Rattle.groups.proofs.Store.{length-to, base-pos}
 
 -- ---- digits of a number
-pub number-digits : (b n x : ℕ) → 0 < b → x < b ^ n → number b (digits b n x) ≡ x
-unfolding digits number
-number-digits b zero x p h = let l = rw pow-zero at h in omega arith
-number-digits b (suc n) x p h =
-    number-snoc b (digits b n (x / b)) (x % b)
-    ∙ ap (λ (y : ℕ). y * b + x % b) (number-digits b n (x / b) p (div-lt-iff-lt-mul p .1 (rw pow-suc at h)))
-    ∙ div-add-mod' x b
-
 -- the first digit is below m where the number is below m times the weight of its place
 pub first-lt : (b n x m : ℕ) → 0 < b → x < m * b ^ n → getD (digits b (suc n) x) 0 0 < m
 unfolding digits
@@ -97,9 +89,8 @@ module _ (F : Form) (i f : ℕ) where
 -- ---- what was written is read
 -- a group's bytes hold every number of its digits
 pub holds : (F : Form) (d : ℕ) → d ≤ 9 → 10 ^ d ≤ baseOf F ^ wideOf F d
-unfolding width
-holds Plain d h = leb→le _ _ (at (λ d. leb (10 ^ d) (256 ^ width d)) 10 tt d (omega arith))
-holds Inverted d h = leb→le _ _ (at (λ d. leb (10 ^ d) (256 ^ width d)) 10 tt d (omega arith))
+holds Plain d h = ten-fits d h
+holds Inverted d h = ten-fits d h
 holds Digits d h = le-refl (10 ^ d)
 
 pub each-well : (i f : ℕ) (gs : List ℕ) → wellFormed i f gs ≡ true → (k : ℕ) → k < 9 → wellAt i f k (getD gs k 0) ≡ true
@@ -140,16 +131,16 @@ first-place i f h = go (ltb 0 ((i + 8) / 9)) refl
     go true e = let l = ltb-true 0 ((i + 8) / 9) e in omega arith
     go false e = let l = ltb-false 0 ((i + 8) / 9) e in omega arith
 
-top-bit : (d : ℕ) → 1 ≤ d → d ≤ 9 → 10 ^ d ≤ 128 * 256 ^ (width d - 1)
-unfolding width
-top-bit d l h =
-    let e : suc (d - 1) ≡ d = omega arith in
-    let r : 10 ^ suc (d - 1) ≤ 128 * 256 ^ (width (suc (d - 1)) - 1) = leb→le _ _ (at (λ k. leb (10 ^ suc k) (128 * 256 ^ (width (suc k) - 1))) 9 tt (d - 1) (omega arith)) in
-    rw e at r
-
 width-pos : (d : ℕ) → 1 ≤ d → 1 ≤ width d
 unfolding width
 width-pos d h = omega arith
+
+top-bit : (d : ℕ) → 1 ≤ d → d ≤ 9 → 10 ^ d ≤ 128 * 256 ^ (width d - 1)
+top-bit d l h =
+    let p = width-pos d l in
+    let e : width d ≡ suc (width d - 1) = omega arith in
+    let r : 2 * 10 ^ d ≤ 256 ^ (width d - 1) * 256 = rw (← pow-suc, ← e) (sign-fits d l h) in
+    omega arith
 
 -- a decimal's first byte, before it is inverted and its first bit flipped, is below 128
 first-of : (F : Form) → baseOf F ≡ 256 → ((d : ℕ) → wideOf F d ≡ width d) → (i f : ℕ) (gs : List ℕ) → 1 ≤ i + f → wellAt i f 0 (getD gs 0 0) ≡ true

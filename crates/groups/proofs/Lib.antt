@@ -11,4 +11,5 @@ pub mod Store
 pub mod Room
 pub mod Opened
 pub mod Caps
+pub mod Widths
 pub mod Sides

@@ -2,8 +2,8 @@
 -- Assumes nothing.
 use mathlib.Core.Path.{_≡_, refl, ap, _∙_}
 use mathlib.Core.List.{List, [], _∷_, _++_}
-use Prim.Native.Nat.{ℕ, zero, suc, _+_, _*_, _/_, _%_, _≤_, _<_}
-use native.Mathlib.Nat.{le-trans, le-suc, pow-suc, pow-zero, mod-lt}
+use Prim.Native.Nat.{ℕ, zero, suc, _+_, _*_, _/_, _%_, _^_, _≤_, _<_}
+use native.Mathlib.Nat.{le-trans, le-suc, pow-suc, pow-zero, mod-lt, div-add-mod', div-lt-iff-lt-mul}
 use native.Mathlib.Omega.{arith}
 use native.Mathlib.Numerals.{add-one}
 use lib.ListN.{length, getD, take, drop, length-append, length-drop}
@@ -32,6 +32,15 @@ pub length-digits : (b n x : ℕ) → length (digits b n x) ≡ n
 unfolding digits
 length-digits b zero x = refl
 length-digits b (suc n) x = length-append (digits b n (x / b)) (x % b ∷ []) ∙ ap (λ (m : ℕ). m + 1) (length-digits b n (x / b)) ∙ add-one n
+
+-- the number of the digits of a number that n digits hold is that number
+pub number-digits : (b n x : ℕ) → 0 < b → x < b ^ n → number b (digits b n x) ≡ x
+unfolding digits number
+number-digits b zero x p h = let l = rw pow-zero at h in omega arith
+number-digits b (suc n) x p h =
+    number-snoc b (digits b n (x / b)) (x % b)
+    ∙ ap (λ (y : ℕ). y * b + x % b) (number-digits b n (x / b) p (div-lt-iff-lt-mul p .1 (rw pow-suc at h)))
+    ∙ div-add-mod' x b
 
 -- one digit more of those from `at` on
 pub more : (b : ℕ) (ps : List ℕ) (at i : ℕ) → at + i < length ps → number b (take (i + 1) (drop at ps)) ≡ number b (take i (drop at ps)) * b + getD ps (at + i) 0

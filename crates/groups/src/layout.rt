@@ -7,9 +7,6 @@ ghost use Rattle.groups.specs.Sides.{sidesOf};
 ghost use Rattle.groups.specs.Read.{inRange};
 ghost use Rattle.groups.specs.Write.{told, sizeOf};
 
-// The bytes of a group of as many digits. A table of bytes is laid out in few instructions where it is used.
-const DIG_TO_BYTES: [u8; 10] = [0, 1, 1, 2, 2, 3, 3, 4, 4, 4];
-
 const POWERS_10: [u32; 10] = [
     1,
     10,
@@ -23,11 +20,14 @@ const POWERS_10: [u32; 10] = [
     1000000000,
 ];
 
+// The bytes of a group of d digits: half as many, rounded up, since two digits fit a byte, and never above four, since four bytes hold
+// nine digits: 2^32 is above 10^9. So every number below 10^d fits (`fits` in proofs/Widths.antt).
 fn width_of(d: usize) -> usize
     requires { ⌜ d ≤ 9 ⌝ }
     ensures { λ r. ⌜ (r ≡ width d) × (r ≤ 4) ⌝ }
 {
-    DIG_TO_BYTES[d] as usize
+    let half = (d + 1) / 2;
+    if half < 4 { half } else { 4 }
 }
 
 fn power_of(d: usize) -> u32
@@ -71,8 +71,9 @@ pub fn sides_of(intg: usize, frac: usize) -> Sides
     let point = first + q;
     let front = width_of(lead);
     let back = width_of(tail);
+    let whole = width_of(9);
     Sides {
-        size: front + 4 * (q + z) + back,
+        size: front + whole * (q + z) + back,
         lead,
         front,
         first,

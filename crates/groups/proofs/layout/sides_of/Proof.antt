@@ -1,8 +1,9 @@
--- The rests and the whole groups by nine; a rest of no digits takes no place.
+-- The rests and the whole groups by nine; a rest of no digits takes no place, and a whole group four bytes.
 -- Assumes nothing.
 use mathlib.Core.Path.{_≡_}
 use mathlib.Core.Logic.{⊎-elim}
 use native.Mathlib.Omega.{arith}
+use Rattle.groups.specs.Layout.{width}
 use Rattle.groups.specs.Sides.{leadPlaces}
 use Rattle.groups.proofs.Sides.{point-is}
 use borrow.Author.Needs.{needs}
@@ -18,27 +19,34 @@ width-of-requires c κs = search needs
 width-of-requires-2 : tie.Need-width-of-requires-2
 width-of-requires-2 c κs = search needs
 
-add-t13 : tie.Need-add-t13
-add-t13 c = search needs
+width-of-requires-3 : tie.Need-width-of-requires-3
+width-of-requires-3 c κs = search needs
 
-mul-t14 : tie.Need-mul-t14
-mul-t14 c = search needs
+add-t14 : tie.Need-add-t14
+add-t14 c = search needs
 
-add-t15 : tie.Need-add-t15
-add-t15 c = search needs
+mul-t15 : tie.Need-mul-t15
+unfolding width
+mul-t15 c = rw (c .width-of3 .ensures .0) (omega arith)
 
 add-t16 : tie.Need-add-t16
-add-t16 c = search needs
+unfolding width
+add-t16 c = rw (c .width-of3 .ensures .0) (omega arith)
 
 add-t17 : tie.Need-add-t17
-add-t17 c = ⊎-elim (λ w. omega arith) (λ w. omega arith) (c .before .before .before .if1 .came)
+unfolding width
+add-t17 c = rw (c .width-of3 .ensures .0) (omega arith)
+
+add-t18 : tie.Need-add-t18
+add-t18 c = ⊎-elim (λ w. omega arith) (λ w. omega arith) (c .before .before .before .before .if1 .came)
 
 returns : tie.Need-returns
+unfolding width
 returns c =
-    let j = c .before .before .before in
+    let j = c .before .before .before .before in
     let i = j .before .args .intg in
     let e : j .if1 .first ≡ leadPlaces i = ⊎-elim (λ w. omega arith) (λ w. omega arith) (j .if1 .came) in
-    rw (e, point-is i, c .width-of2 .ensures .0, c .before .width-of .ensures .0)
+    rw (e, point-is i, c .width-of3 .ensures .0, c .before .width-of2 .ensures .0, c .before .before .width-of .ensures .0)
 
 pub sides-of-spec : {M : Type 1} → statement M
 sides-of-spec =
@@ -47,9 +55,10 @@ sides-of-spec =
     add-point
     width-of-requires
     width-of-requires-2
-    add-t13
-    mul-t14
-    add-t15
+    width-of-requires-3
+    add-t14
+    mul-t15
     add-t16
     add-t17
+    add-t18
     returns)
