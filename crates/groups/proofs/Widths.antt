@@ -1,4 +1,4 @@
--- Why half the digits of a group, rounded up and never above four, are bytes enough: two digits fit a byte, and four bytes hold nine digits.
+-- Why the bytes of a group are enough, since two digits fit a byte and four bytes hold nine digits; and that fewer would leave no bit for a sign.
 -- Assumes nothing.
 use mathlib.Core.Path.{_≡_, refl}
 use mathlib.Core.Logic.{⊎-elim}
@@ -32,6 +32,7 @@ two-a-byte (suc w) =
 nine-in-four : 10 ^ 9 ≤ 256 ^ 4
 nine-in-four = leb→le _ _ tt
 
+-- so the bytes of d digits count up to 10 to the d at least
 pub ten-fits : (d : ℕ) → d ≤ 9 → 10 ^ d ≤ 256 ^ width d
 unfolding width
 ten-fits d h =
@@ -45,12 +46,12 @@ ten-fits d h =
 pub fits : (d : ℕ) → d ≤ 9 → (n : ℕ) → n < 10 ^ d → n < 256 ^ width d
 fits d h n l = lt-of-lt-of-le l (ten-fits d h)
 
--- so the bytes that it is written in hold it
+-- so its digits in base 256, as many as these bytes, write that number
 pub held : (d : ℕ) → d ≤ 9 → (n : ℕ) → n < 10 ^ d → number 256 (digits 256 (width d) n) ≡ n
 held d h n l = number-digits 256 (width d) n (lit< tt) (fits d h n l)
 
--- ---- and no more than enough
--- The first bit of a decimal is its sign, and the bytes of d digits leave room for it.
+-- ---- with a bit for the sign, and then no fewer
+-- Beside one to nine digits their bytes hold one bit more: the first bit of a decimal is its sign.
 pub sign-fits : (d : ℕ) → 1 ≤ d → d ≤ 9 → 2 * 10 ^ d ≤ 256 ^ width d
 unfolding width
 sign-fits d l h =
@@ -58,7 +59,7 @@ sign-fits d l h =
     let r : 2 * 10 ^ suc (d - 1) ≤ 256 ^ width (suc (d - 1)) = leb→le _ _ (at (λ k. leb (2 * 10 ^ suc k) (256 ^ width (suc k))) 9 tt (d - 1) (omega arith)) in
     rw e at r
 
--- Fewer bytes do not: three would hold seven digits, but not twice as many numbers.
+-- Fewer bytes do not: three hold the numbers of seven digits, but not twice as many.
 pub no-fewer : (d : ℕ) → d ≤ 9 → (w : ℕ) → 2 * 10 ^ d ≤ 256 ^ w → width d ≤ w
 unfolding width
 no-fewer d h w l =

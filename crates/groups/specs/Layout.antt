@@ -15,7 +15,8 @@ pub data Form : Type 0 where
   Inverted : Form
   Digits : Form
 
--- the bytes of a group of d digits: half as many, rounded up, and never above four; of 0 to 9 digits 0, 1, 1, 2, 2, 3, 3, 4, 4, 4
+-- the bytes of a group of d digits: half as many as digits, rounded up, and never above four, so of 0 to 9 digits 0, 1, 1, 2, 2, 3, 3, 4, 4, 4.
+-- Why these are enough: proofs/Widths.antt.
 unfoldable pub width : ℕ → ℕ
 width d = min 4 ((d + 1) / 2)
 

@@ -20,8 +20,9 @@ const POWERS_10: [u32; 10] = [
     1000000000,
 ];
 
-// The bytes of a group of d digits: half as many, rounded up, since two digits fit a byte, and never above four, since four bytes hold
-// nine digits: 2^32 is above 10^9. So every number below 10^d fits (`fits` in proofs/Widths.antt).
+// A group of d digits takes half as many bytes as digits, rounded up, since two digits fit a byte, and never more than four, since four
+// bytes hold nine digits (2^32 is above 10^9). So every number below 10^d fits: `fits` in proofs/Widths.antt. Three bytes would hold
+// seven digits too, but not the bit of the sign, which the first group has beside them (`no-fewer` there).
 fn width_of(d: usize) -> usize
     requires { ⌜ d ≤ 9 ⌝ }
     ensures { λ r. ⌜ (r ≡ width d) × (r ≤ 4) ⌝ }
