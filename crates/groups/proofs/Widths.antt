@@ -14,7 +14,7 @@ use Rattle.groups.proofs.Radix.{number-digits}
 use Rattle.groups.proofs.Places.{ten-most}
 use Rattle.groups.proofs.Caps.{below-or-not}
 
--- The formula gives the bytes that document 01 and decimal.c (its dig2bytes) list for 0 to 9 digits.
+-- The formula gives the bytes that document 01, and mysql_common's DIG_TO_BYTES, list for 0 to 9 digits.
 pub width-row : tab 10 width ≡ 0 ∷ 1 ∷ 1 ∷ 2 ∷ 2 ∷ 3 ∷ 3 ∷ 4 ∷ 4 ∷ 4 ∷ []
 unfolding tab width
 width-row = refl
