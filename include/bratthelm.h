@@ -31,7 +31,7 @@
  *   a count, an order, a number of bytes or of characters, 1 number
  *   how a walk ended, 2 numbers: the count of events, and the place of the fault, which is 0 where there is none
  *   a decimal, 12 numbers: digits before the point, digits after it, sign (0, else 1 for a minus), and nine groups: the digits, cut in nines from the
- *     point outwards, left to right; the last group of a fraction is filled with zeros to nine digits, and unused groups are 0.
+ *     point outwards, left to right; the last group of a fraction is filled with zeros to nine digits, unused groups are 0, and a zero has the sign 0.
  *     1234567890.5 is 10 1 0 1 234567890 500000000 0 0 0 0 0 0
  *
  * Starts count from the document's first byte. A container is asked by four numbers of its row: type code, start, size and count.

@@ -49,14 +49,15 @@ impl Decimal {
         Ok(Decimal { numbers })
     }
 
-    /// The decimal of twelve numbers, as [`Decimal::numbers`] gives them: 26.
+    /// The decimal of twelve numbers, as [`Decimal::numbers`] gives them: 26, also for a sign on zero.
     pub fn from_numbers(numbers: [u32; NUMBERS]) -> Result<Decimal, Refusal> {
         // Whatever can be compared, with itself too, is a decimal.
         answered(calls::decimal_compare(&numbers, &numbers, &mut [0]))?;
         Ok(Decimal { numbers })
     }
 
-    /// Digits before the point, digits after it, sign (0, else 1 for a minus) and nine groups of digits, cut in nines from the point outwards.
+    /// Digits before the point, digits after it, sign (0, else 1 for a minus; 0 where all groups are) and nine groups of digits, cut in nines from the
+    /// point outwards.
     pub fn numbers(&self) -> [u32; NUMBERS] {
         self.numbers
     }
@@ -80,7 +81,7 @@ impl Decimal {
         Ok(count[0] as usize)
     }
 
-    /// The order by value: 1 is 1.0, both zeros are equal, and 9 is less than 100.
+    /// The order by value: 1 is 1.0, and 9 is less than 100.
     pub fn compare(&self, other: &Decimal) -> Result<Ordering, Refusal> {
         let mut order = [0];
         answered(calls::decimal_compare(&self.numbers, &other.numbers, &mut order))?;

@@ -92,6 +92,6 @@ fn flags_and_signs_are_0_or_else_1() {
         assert_eq!(calls::decimal_read_bin(&[0x7F], 2, 0, keep, row), 0);
     }
     assert_eq!(kept[0][..4], [1, 0, 0, 0]);
-    assert_eq!(kept[1][..4], [2, 0, 1, 0]);
+    assert_eq!(kept[1][..4], [2, 0, 0, 0]);
     assert!(kept[2] == kept[1] && kept[3] == kept[1]);
 }

@@ -263,8 +263,33 @@ fn digit_bytes() {
             assert_eq!(Decimal::read_bin(&[0; 64], precision, scale, keep).unwrap_err(), Refusal::Range);
         }
     }
-    assert_eq!(Decimal::read_bin(&[0x7F], 2, 0, true).unwrap().to_string(), "-0");
+    assert_eq!(Decimal::read_bin(&[0x7F], 2, 0, true).unwrap().to_string(), "0");
     assert_eq!(Decimal::read_bin(&[0x7F], 2, 0, false).unwrap().to_string(), "0");
+}
+
+#[test]
+fn a_zero_is_positive() {
+    for (precision, scale, size) in [(1, 0, 1), (1, 1, 1), (2, 1, 2), (20, 5, 10), (65, 30, 30)] {
+        let mut zero = [0xFF; 30];
+        zero[0] = 0x7F;
+        let read = Decimal::read_bin(&zero[..size], precision, scale, true).unwrap();
+        assert_eq!(read.numbers()[..3], [(precision - scale) as u32, scale as u32, 0]);
+        assert_eq!(read.numbers()[3..], [0; 9]);
+        let mut back = [7; 30];
+        assert_eq!(read.write_bin(&mut back), Ok(size));
+        assert_eq!(back[0], 0x80);
+        assert!(back[1..size].iter().all(|&byte| byte == 0) && back[size..].iter().all(|&byte| byte == 7));
+        assert!(!Decimal::read_bin(&zero[..size], precision, scale, false).unwrap().to_string().contains('-'));
+        // The last bit of the last byte away from zero, it is negative, and comes back as it was.
+        zero[size - 1] ^= 1;
+        let least = Decimal::read_bin(&zero[..size], precision, scale, true).unwrap();
+        assert_eq!(least.numbers()[2], 1);
+        assert_eq!(least.write_bin(&mut back), Ok(size));
+        assert_eq!(back[..size], zero[..size]);
+        assert_eq!(least.compare(&read), Ok(Less));
+    }
+    assert_eq!(Decimal::from_numbers([1, 1, 1, 0, 0, 0, 0, 0, 0, 0, 0, 0]).unwrap_err(), Refusal::Record);
+    assert_eq!(Decimal::from_numbers([1, 1, 1, 0, 100_000_000, 0, 0, 0, 0, 0, 0, 0]).unwrap().to_string(), "-0.1");
 }
 
 #[test]
@@ -287,8 +312,8 @@ fn order_is_by_value() {
     {
         assert_eq!(parsed(left).compare(&parsed(right)), Ok(order), "{left} {right}");
     }
-    let minus = Decimal::read_bin(&[0x7F], 2, 0, true).unwrap();
-    assert_eq!(minus.compare(&parsed("0")), Ok(Equal));
+    let zero = Decimal::read_bin(&[0x7F], 2, 0, true).unwrap();
+    assert_eq!(zero.compare(&parsed("0")), Ok(Equal));
 }
 
 #[test]

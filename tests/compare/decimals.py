@@ -87,7 +87,7 @@ def written(data):
 
 
 def printed(data):
-    """The text of a packed decimal read without kept precision, or None where the rules refuse it."""
+    """What the original prints of a packed decimal read without kept precision, a sign on zero included, or None where the rules refuse it."""
     read = unpacked(data)
     if isinstance(read, int):
         return None

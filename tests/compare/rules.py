@@ -136,6 +136,18 @@ def group_over(words, ours, theirs, walk):
     return any(decimals.unpacked(data) == 22 for data in asked_decimals(words))
 
 
+def negative_zero(words, ours, theirs, walk):
+    """Bytes of a negative zero: the original's answer is ours with a sign before the text and all bytes inverted."""
+    if words[0] not in "rpo":
+        return False
+    read = decimals.unpack(int(words[1]), int(words[2]), unhex(words[4])) if words[0] == "r" else decimals.unpacked(asked_decimals(words)[0])
+    if isinstance(read, int) or not read[0] or any(read[1]):
+        return False
+    whole, after, sign, text, digits = ours.split(" ")
+    inverted = bytes(255 - byte for byte in unhex(digits)).hex()
+    return sign == "+" and theirs == " ".join((whole, after, "-", "-" + text, inverted))
+
+
 def order(words, ours, theirs, walk):
     if words[0] != "c" or ours not in ("less", "equal", "greater") or theirs not in ("less", "equal", "greater"):
         return False
@@ -219,6 +231,7 @@ class Row:
 INTENDED = (
     Row("precision and scale", "outside their range: 20 here; the original accepts some and fails by overflow on others", out_of_range),
     Row("group out of range", "22 here; the original takes the group as it stands, or overflows", group_over),
+    Row("negative zero", "positive here, with kept precision or without; the original keeps the sign where a digit is left", negative_zero),
     Row("order", "by value here; the original compares the bytes that it would write", order),
     Row("long text", "over 65 digits or 30 after the point: 24 here; the original has no limit", long_text),
     Row("key not UTF-8", "9 here; the original's parse puts a replacement character in its tree", key_text),

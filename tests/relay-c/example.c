@@ -108,8 +108,14 @@ int main(void) {
     check("8C 22", bytes[0] == 0x8C && bytes[1] == 0x22);
     expect("write, one byte lent", bratthelm_decimal_write_bin(d, 12, bytes, 1, fresh(), 16), BRATTHELM_ERR_ROOM, row, NONE);
     r = bratthelm_decimal_read_bin(nought, 1, 2, 0, 1, d, 12);
-    expect("print 7F, kept", r ? r : bratthelm_decimal_print(d, 12, text, sizeof text, fresh(), 16), 0, row, ROW(2));
-    check("-0", memcmp(text, "-0", 2) == 0);
+    expect("print 7F, kept", r ? r : bratthelm_decimal_print(d, 12, text, sizeof text, fresh(), 16), 0, row, ROW(1));
+    check("0, kept", text[0] == '0');
+    expect("write 7F again", bratthelm_decimal_write_bin(d, 12, bytes, sizeof bytes, fresh(), 16), 0, row, ROW(1));
+    check("80", bytes[0] == 0x80);
+    d[2] = 1;
+    expect("print a sign on zero", bratthelm_decimal_print(d, 12, text, sizeof text, fresh(), 16), BRATTHELM_ERR_RECORD, row, NONE);
+    expect("write a sign on zero", bratthelm_decimal_write_bin(d, 12, bytes, sizeof bytes, fresh(), 16), BRATTHELM_ERR_RECORD, row, NONE);
+    expect("compare with a sign on zero", bratthelm_decimal_compare(d, 12, d, 12, fresh(), 16), BRATTHELM_ERR_RECORD, row, NONE);
     r = bratthelm_decimal_read_bin(nought, 1, 2, 0, 0, d, 12);
     expect("print 7F", r ? r : bratthelm_decimal_print(d, 12, text, sizeof text, fresh(), 16), 0, row, ROW(1));
     check("0", text[0] == '0');

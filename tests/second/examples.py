@@ -4,6 +4,8 @@
 Part 1: every example of document 01. Part 2: cases at the edges of its rules, with
 answers worked out by hand from the rules. Part 3: answers computed here by other
 means: an encoder of documents, Python's own decimal numbers, RFC 3629's grammar.
+Request W2 of the project overrides document 01 on negative zero: zero read from bytes
+is positive, and a record with a sign on zero is refused, 26. All parts follow W2.
 Prints how many agree, and each that does not. Ends with 1 if any differs.
 """
 
@@ -129,7 +131,7 @@ def examples():
     add("r 2 0 0 : E3", "2 0 + 99 e3")
     add("r 2 0 1 : E4", "refused 22")
     add("r 2 0 0 : E4", "refused 22")
-    add("r 2 0 1 : 7F", "2 0 - -0 7f")
+    add("r 2 0 1 : 7F", "2 0 + 0 80")  # by request W2, not by document 01
     add("r 2 0 0 : 7F", "1 0 + 0 80")
     add(text("007"), "2 0 + 7 87")
     add(text(".5"), "0 1 + 0.5 85")
@@ -491,24 +493,24 @@ def edges():
     add("r 1 0 1 -", "refused 21")
     add("r 1 0 1 80", "1 0 + 0 80")
     add("r 1 0 0 80", "1 0 + 0 80")
-    add("r 1 0 1 7f", "1 0 - -0 7f")
+    add("r 1 0 1 7f", "1 0 + 0 80")
     add("r 1 0 0 7f", "1 0 + 0 80")
     add("r 1 0 1 89", "1 0 + 9 89")
     add("r 1 0 1 8a", "refused 22")
     add("r 1 0 1 76", "1 0 - -9 76")
     add("r 1 0 1 75", "refused 22")
     add("r 1 0 1 8977", "1 0 + 9 89")
-    add("r 2 1 0 7fff", "0 1 - -0.0 7f")
-    add("r 2 1 1 7fff", "1 1 - -0.0 7fff")
+    add("r 2 1 0 7fff", "0 1 + 0.0 80")
+    add("r 2 1 1 7fff", "1 1 + 0.0 8000")
     add("r 2 1 0 8000", "0 1 + 0.0 80")
     add("r 1 1 1 85", "0 1 + 0.5 85")
     add("r 1 1 1 8a", "refused 22")
-    add("r 1 1 0 7f", "0 1 - -0.0 7f")
+    add("r 1 1 0 7f", "0 1 + 0.0 80")
     add("r 10 0 0 800000000c", "9 0 + 12 8000000c")
     add("r 10 0 1 800000000c", "10 0 + 0000000012 800000000c")
     add("r 10 0 0 8000000000", "1 0 + 0 80")
     add("r 10 0 0 7fffffffff", "1 0 + 0 80")
-    add("r 10 0 1 7fffffffff", "10 0 - -0000000000 7fffffffff")
+    add("r 10 0 1 7fffffffff", "10 0 + 0000000000 8000000000")
     add("r 10 0 1 813b9aca00", "refused 22")
     add("r 10 0 1 813b9ac9ff", "10 0 + 1999999999 813b9ac9ff")
     add("r 10 0 1 8a3b9aca00", "refused 22")
@@ -529,6 +531,59 @@ def edges():
     add("p 1 04028c22ffff", "2 2 + 12.34 8c22")
     add("p 1 0402e422", "refused 22")
     add("p 1 04028c64", "refused 22")
+
+    # Request W2: a zero read from bytes is positive, kept (first answer) or not (second).
+    zeros = "0" * 30
+    for precision, scale, size, kept, short in (
+            (1, 0, 1, "1 0 + 0 80", "1 0 + 0 80"), (1, 1, 1, "0 1 + 0.0 80", "0 1 + 0.0 80"),
+            (2, 0, 1, "2 0 + 0 80", "1 0 + 0 80"), (2, 1, 2, "1 1 + 0.0 8000", "0 1 + 0.0 80"),
+            (2, 2, 1, "0 2 + 0.00 80", "0 2 + 0.00 80"), (4, 2, 2, "2 2 + 0.00 8000", "0 2 + 0.00 80"),
+            (9, 0, 4, "9 0 + 0 80000000", "1 0 + 0 80"),
+            (9, 9, 4, "0 9 + 0.000000000 80000000", "0 9 + 0.000000000 80000000"),
+            (10, 0, 5, "10 0 + 0000000000 8000000000", "1 0 + 0 80"),
+            (10, 1, 5, "9 1 + 0.0 8000000000", "0 1 + 0.0 80"),
+            (10, 10, 5, "0 10 + 0.0000000000 8000000000", "0 10 + 0.0000000000 8000000000"),
+            (18, 9, 8, "9 9 + 0.000000000 8000000000000000", "0 9 + 0.000000000 80000000"),
+            (20, 5, 10, "15 5 + 0000000000.00000 80000000000000000000", "0 5 + 0.00000 800000"),
+            (30, 30, 14, "0 30 + 0." + zeros + " 80" + "00" * 13, "0 30 + 0." + zeros + " 80" + "00" * 13),
+            (65, 0, 29, "65 0 + 0" + "0" * 63 + " 80" + "00" * 28, "1 0 + 0 80"),
+            (65, 1, 30, "64 1 + 0" + "0" * 63 + ".0 80" + "00" * 29, "0 1 + 0.0 80"),
+            (65, 30, 30, "35 30 + 0" + "0" * 27 + "." + zeros + " 80" + "00" * 29, "0 30 + 0." + zeros + " 80" + "00" * 13)):
+        for data in ("80" + "00" * (size - 1), "7f" + "ff" * (size - 1)):
+            for keep, expected in ((1, kept), (0, short)):
+                add("r %d %d %d %s" % (precision, scale, keep, data), expected)
+                add("p %d %02x%02x%s" % (keep, precision, scale, data), expected)
+                add("p %d %02x%02x%s01" % (keep, precision, scale, data), expected)
+                add("o %d 0ff6%02x%02x%02x%s" % (keep, 2 + size, precision, scale, data), expected)
+                add("r %d %d %d %s" % (precision, scale, keep, data[:-2] or "-"), "refused 21")
+            add("c %02x%02x%s 010080" % (precision, scale, data), "equal")
+            add("c 02017fff %02x%02x%s" % (precision, scale, data), "equal")
+            add("c %02x%02x%s 01007e" % (precision, scale, data), "greater")
+            add("c %02x%02x%s 010081" % (precision, scale, data), "less")
+    # A negative value that is near zero, but not zero, stays negative.
+    for precision, scale, data, kept, short in (
+            (1, 0, "7e", "1 0 - -1 7e", "1 0 - -1 7e"), (1, 1, "7e", "0 1 - -0.1 7e", "0 1 - -0.1 7e"),
+            (2, 0, "7e", "2 0 - -1 7e", "2 0 - -1 7e"), (2, 1, "7ffe", "1 1 - -0.1 7ffe", "0 1 - -0.1 7e"),
+            (2, 1, "7eff", "1 1 - -1.0 7eff", "1 1 - -1.0 7eff"), (2, 2, "7e", "0 2 - -0.01 7e", "0 2 - -0.01 7e"),
+            (10, 0, "7ffffffffe", "10 0 - -0000000001 7ffffffffe", "9 0 - -1 7ffffffe"),
+            (10, 0, "7effffffff", "10 0 - -1000000000 7effffffff", "10 0 - -1000000000 7effffffff"),
+            (10, 10, "7ffffffffe", "0 10 - -0.0000000001 7ffffffffe", "0 10 - -0.0000000001 7ffffffffe"),
+            (20, 5, "7f" + "ff" * 8 + "fe", "15 5 - -0000000000.00001 7f" + "ff" * 8 + "fe", "0 5 - -0.00001 7ffffe"),
+            (20, 5, "7ffffffffffffeffffff", "15 5 - -0000000001.00000 7ffffffffffffeffffff", "9 5 - -1.00000 7ffffffeffffff"),
+            (65, 1, "7f" + "ff" * 28 + "fe", "64 1 - -0" + "0" * 63 + ".1 7f" + "ff" * 28 + "fe", "0 1 - -0.1 7e"),
+            (30, 30, "7f" + "ff" * 12 + "fe", "0 30 - -0." + "0" * 29 + "1 7f" + "ff" * 12 + "fe",
+             "0 30 - -0." + "0" * 29 + "1 7f" + "ff" * 12 + "fe")):
+        for keep, expected in ((1, kept), (0, short)):
+            add("r %d %d %d %s" % (precision, scale, keep, data), expected)
+            add("p %d %02x%02x%s" % (keep, precision, scale, data), expected)
+            add("o %d 0ff6%02x%02x%02x%s" % (keep, 2 + len(data) // 2, precision, scale, data), expected)
+        add("c %02x%02x%s 01007f" % (precision, scale, data), "less")
+        add("c 01007f %02x%02x%s" % (precision, scale, data), "greater")
+    # Zeros beside a group out of range are no zero: the group is refused.
+    add("r 2 1 1 7ff5", "refused 22")
+    add("r 2 1 0 75ff", "refused 22")
+    add("c 01007f 02017ff5", "refused 22")
+    add("r 0 0 1 7f", "1 0 + 0 80")
 
     # Text.
     for words, expected in (
@@ -563,21 +618,50 @@ def edges():
                            (6, "2 ; 73dd ; -12.34 ; kept"), (128, "2 ; 73dd ; -12.34 ; kept"), (129, "what")):
         add("x " + record(2, 2, 1, 12, 340000000) + " %d" % room, expected)
     add("x " + record(0, 1, 0, 500000000) + " 3", "1 ; 85 ; 0.5 ; kept")
-    add("x " + record(1, 0, 1, 0) + " 2", "1 ; 7f ; -0 ; kept")
+    add("x " + record(1, 0, 1, 0) + " 2", bad)
+    # Request W2: a sign on zero is ill formed, whatever the room and the digits; without
+    # the sign the record is good, and so is the sign where one group is not zero.
+    for intg, frac in ((1, 0), (2, 0), (9, 0), (10, 0), (65, 0), (0, 1), (0, 9), (0, 10), (0, 30), (1, 1), (2, 2), (9, 9),
+                       (15, 5), (35, 30), (64, 1)):
+        for room in (0, 1, 2, 6, 128):
+            add("x " + record(intg, frac, 1) + " %d" % room, bad)
+    add("x " + record(1, 0, 0) + " 0", "1 ; refused 25 ; refused 25 ; kept")
+    add("x " + record(1, 0, 0) + " 1", "1 ; 80 ; 0 ; kept")
+    add("x " + record(0, 1, 0) + " 2", "1 ; 80 ; refused 25 ; kept")
+    add("x " + record(0, 1, 0) + " 3", "1 ; 80 ; 0.0 ; kept")
+    add("x " + record(2, 2, 0) + " 4", "2 ; 8000 ; 0.00 ; kept")
+    add("x " + record(15, 5, 0) + " 128", "10 ; 80000000000000000000 ; 0000000000.00000 ; kept")
+    add("x " + record(1, 1, 1, 0, 100000000) + " 0", "2 ; refused 25 ; refused 25 ; kept")
+    add("x " + record(1, 1, 1, 0, 100000000) + " 3", "2 ; 7ffe ; refused 25 ; kept")
+    add("x " + record(1, 1, 1, 0, 100000000) + " 4", "2 ; 7ffe ; -0.1 ; kept")
+    add("x " + record(0, 10, 1, 0, 100000000) + " 128", "5 ; 7ffffffffe ; -0.0000000001 ; kept")
+    add("x " + record(15, 5, 1, 0, 1) + " 128", "10 ; 7ffffffffffffeffffff ; -0000000001.00000 ; kept")
+    add("x " + record(64, 1, 1, *([0] * 8 + [100000000])) + " 128",
+        "30 ; 7f" + "ff" * 28 + "fe ; -0" + "0" * 63 + ".1 ; kept")
     add("x " + record(64, 1, 0, 9, *([999999999] * 7 + [900000000])) + " 128",
         "30 ; 89" + "3b9ac9ff" * 7 + "09 ; " + "9" * 64 + ".9 ; kept")
     for groups in ((0, 0, 0), (66, 0, 0), (36, 30, 0), (34, 31, 0), (0, 31, 0), (4294967295, 1, 0), (1, 4294967295, 0),
                    (0, 1, 0, 5), (0, 1, 0, 1000000000), (0, 1, 0, 500000001), (1, 0, 0, 10), (2, 0, 0, 100),
                    (9, 0, 0, 1000000000), (10, 0, 0, 1, 1000000000), (10, 0, 0, 10, 1), (1, 0, 0, 5, 1),
                    (1, 0, 0, 5, 0, 0, 0, 0, 0, 0, 0, 1), (1, 9, 0, 1, 1000000000), (1, 10, 0, 1, 1, 10),
-                   (1, 10, 0, 1, 1, 1000000000), (0, 9, 0, 4294967295)):
+                   (1, 10, 0, 1, 1, 1000000000), (0, 9, 0, 4294967295),
+                   # A sign on zero alone; then with no digit, too many, and zero only in the groups used.
+                   (1, 0, 1), (0, 1, 1), (2, 2, 1), (15, 5, 1), (64, 1, 1),
+                   (0, 0, 1), (66, 0, 1), (36, 30, 1), (0, 31, 1), (4294967295, 1, 1), (1, 4294967295, 1),
+                   (1, 0, 1, 0, 1), (0, 1, 1, 5), (1, 0, 1, 0, 0, 0, 0, 0, 0, 0, 0, 1)):
         add("x " + record(*groups) + " 128", bad)
         add("x " + record(*groups) + " 0", bad)
         add("y " + record(*groups) + " " + record(1, 0, 0, 1), "refused 26")
         add("y " + record(1, 0, 0, 1) + " " + record(*groups), "refused 26")
+        add("y " + record(*groups) + " " + record(1, 0, 1), "refused 26")
+        add("y " + record(1, 0, 1) + " " + record(*groups), "refused 26")
     for first, second, expected in (
-            ((1, 0, 0, 1), (1, 1, 0, 1, 0), "equal"), ((1, 0, 1, 0), (1, 0, 0, 0), "equal"),
-            ((1, 0, 1, 0), (10, 5, 0, 0, 0, 0), "equal"), ((1, 0, 1, 1), (1, 0, 0, 0), "less"),
+            ((1, 0, 0, 1), (1, 1, 0, 1, 0), "equal"), ((1, 0, 1, 0), (1, 0, 0, 0), "refused 26"),
+            ((1, 0, 0, 0), (1, 0, 1, 0), "refused 26"), ((0, 1, 1), (0, 1, 1), "refused 26"),
+            ((1, 0, 1, 0), (10, 5, 0, 0, 0, 0), "refused 26"), ((1, 0, 1, 1), (1, 0, 0, 0), "less"),
+            ((1, 0, 1, 1), (10, 5, 1), "refused 26"), ((1, 0, 0, 0), (1, 0, 0, 0), "equal"),
+            ((1, 0, 0, 0), (10, 5, 0), "equal"), ((0, 30, 0), (65, 0, 0), "equal"),
+            ((1, 1, 1, 0, 100000000), (1, 0, 0, 0), "less"), ((0, 1, 0), (0, 10, 1, 0, 100000000), "greater"),
             ((1, 0, 0, 9), (3, 0, 0, 100), "less"), ((1, 0, 1, 9), (3, 0, 1, 100), "greater"),
             ((0, 1, 0, 500000000), (0, 2, 0, 490000000), "greater"), ((10, 0, 0, 0, 9), (1, 0, 0, 9), "equal"),
             ((0, 10, 0, 0, 100000000), (0, 9, 0, 1), "less"), ((0, 10, 1, 0, 100000000), (0, 9, 1, 1), "greater"),
@@ -596,7 +680,7 @@ def edges():
     # The root as a decimal.
     add("o 1 0ff604040273dd", "2 2 - -12.34 73dd")
     add("o 1 0ff60402007f", "refused 3")
-    add("o 1 0ff60302007f", "2 0 - -0 7f")
+    add("o 1 0ff60302007f", "2 0 + 0 80")
     add("o 0 0ff60302007fff", "1 0 + 0 80")
     add("o 1 0ff603040273dd", "refused 21")
     add("o 1 0ff600", "refused 21")
@@ -712,7 +796,7 @@ def decimal_answer(intg, frac, negative, digits):
 
 
 def decimal_pairs():
-    """All precisions and scales: sizes, digits of several kinds, both signs, kept and not."""
+    """All precisions and scales: sizes, digits of several kinds, both signs, kept and not; a sign on zero."""
     chance = random.Random(1)
     cases = []
     for precision in range(0, 70):
@@ -731,8 +815,9 @@ def decimal_pairs():
             size = len(encode(intg, scale, False, kinds[0]))
             cases.append(("s %d %d" % (precision, scale), "%d" % size))
             for digits in kinds:
-                for negative in (False, True):
-                    data = encode(intg, scale, negative, digits)
+                for sign in (False, True):
+                    data = encode(intg, scale, sign, digits)
+                    negative = sign and int(digits) != 0
                     cases.append(("r %d %d 1 %s" % (precision, scale, data.hex()),
                                   decimal_answer(intg, scale, negative, digits)))
                     cases.append(("p 1 %02x%02x%s00" % (precision, scale, data.hex()),
@@ -747,8 +832,16 @@ def decimal_pairs():
                     else:
                         short = decimal_answer(left, scale, negative, rest)
                     cases.append(("r %d %d 0 %s" % (precision, scale, data.hex()), short))
-                    words = ("-" if negative else "+") + digits[:intg] + "." + digits[intg:]
-                    cases.append((text(words), decimal_answer(intg, scale, negative and int(digits) != 0, digits)))
+                    words = ("-" if sign else "+") + digits[:intg] + "." + digits[intg:]
+                    cases.append((text(words), decimal_answer(intg, scale, negative, digits)))
+            zero = "%d %d %%d" % (intg, scale) + " 0" * 9
+            said = encode(intg, scale, False, kinds[1]).hex() + " ; " + show(intg, scale, False, kinds[1])
+            cases.append(("x " + zero % 0 + " 128", "%d ; %s ; kept" % (size, said)))
+            for room in (0, 128):
+                cases.append(("x " + zero % 1 + " %d" % room, "refused 26 ; refused 26 ; refused 26 ; kept"))
+            cases.append(("y " + zero % 0 + " " + zero % 0, "equal"))
+            cases.append(("y " + zero % 0 + " " + zero % 1, "refused 26"))
+            cases.append(("y " + zero % 1 + " " + zero % 0, "refused 26"))
             for number, (start, end) in enumerate(pieces(intg, scale)):
                 # Each group once at its limit: 10 to the number of its digits.
                 if end - start in (1, 2, 3, 4, 5, 6, 7, 8, 9):

@@ -1,9 +1,19 @@
 #!/usr/bin/env python3
 """A second reader of binary JSON documents and packed decimals.
 
-It was written from document 01 (scope and rules) and from ANSWERS.md (the
-requests) alone, and shares no code with the other readers. It reads requests
-from standard input, one to a line, and writes one line for each.
+It was written from document 01 (scope and rules), from document 02's request W2
+(negative zero) and from ANSWERS.md (the requests) alone, and shares no code with
+the other readers. It reads requests from standard input, one to a line, and writes
+one line for each.
+
+Negative zero
+-------------
+Request W2 of the project overrides document 01 here. A decimal read from bytes whose
+groups are all zero is positive, with kept precision or without, whatever the sign
+of its bytes; so it prints and writes as the positive zero of the same precision. A
+record with a sign on zero (negative, all nine groups zero) is ill formed, 26, which
+still comes before 25. Text zero is positive by document 01 already. No negative zero
+therefore reaches the writing, the printing or the comparison.
 
 Open points and how they are read here
 --------------------------------------
@@ -36,7 +46,9 @@ Open points and how they are read here
     first group that was kept prints "0" and the later groups follow, nine wide.
 11. Dropping leading zero groups (no kept precision) drops whole groups; zeros
     inside a group that stays still count as integral digits. Where digits after
-    the point are left, a negative zero keeps its sign ("-0.0").
+    the point are left, a zero keeps them and has no integral digit ("0.0"). "The
+    positive zero of the same precision" (W2) is what the same request answers for
+    the bytes of the positive zero, so without kept precision it is as short as that.
 12. Text: only "00" at the very beginning loses zeros, so "007" becomes "07" and has
     two integral digits; "0" and 65 more digits that begin with another digit than
     zero are 66 digits, 24. Digits are wanted on one side of the point only ("5." and
@@ -479,8 +491,9 @@ def decimal_bin_size(precision, scale):
 
 def make_record(intg, frac, negative, groups):
     # What must change shape: nine groups; the unused ones are zero.
+    # Zero is positive: from text by the decimal rules, from bytes by request W2.
     unused = [0] * (GROUPS_IN_RECORD - len(groups))
-    return Decimal(intg, frac, negative, tuple(groups + unused))
+    return Decimal(intg, frac, negative and any(groups), tuple(groups + unused))
 
 
 def positive_zero():
@@ -541,7 +554,7 @@ def read_packed(keep, data):
 
 
 def check_record(record):
-    # Refusal numbers: 26, decimal record ill formed.
+    # Refusal numbers: 26, decimal record ill formed; by request W2 also a sign on zero.
     if not 1 <= record.intg + record.frac <= 65 or record.frac > 30:
         raise Refused(26)
     integral = integral_widths(record.intg)
@@ -556,6 +569,8 @@ def check_record(record):
     for group in record.groups[used:]:
         if group != 0:
             raise Refused(26)
+    if record.negative and not any(record.groups):
+        raise Refused(26)
 
 
 def bin_size(record):
@@ -629,8 +644,6 @@ def parse_str_bytes(text):
     for width in fraction_widths(len(after)):
         groups.append(int(after[at:at + width]) * 10 ** (9 - width))
         at += width
-    if not any(groups):
-        negative = False
     return make_record(len(before), len(after), negative, groups)
 
 
@@ -646,7 +659,7 @@ def value_of(record):
 
 
 def compare(first, second):
-    # Decimal rules: comparison is by value; both zeros are equal.
+    # Decimal rules: comparison is by value; a zero that passes the check is positive.
     check_record(first)
     check_record(second)
     if value_of(first) < value_of(second):

@@ -11,7 +11,7 @@ use lib.Seq.{take-all}
 use borrow.Author.Tests.{eq-eqb, ne-eqb}
 use native.Mathlib.Nat.{le-of-eq}
 use Rattle.groups.specs.declared.Groups.{Groups}
-use Rattle.decimal.specs.Read.{negative, nought, decimalOf, finished, refused, accepted, fromGroups, readBin, readPacked}
+use Rattle.decimal.specs.Read.{negative, nought, decimalOf, orNought, finished, refused, accepted, fromGroups, readBin, readPacked}
 
 pub negative-none : (bs : List ℕ) → length bs ≡ 0 → negative bs ≡ false
 unfolding negative
@@ -24,18 +24,18 @@ negative-some [] e = absurd (e refl)
 negative-some (b ∷ bs) e = refl
 
 -- no digit at all, and one on either side of the point
-pub no-digit : (i f : ℕ) (neg : Bool) (gs : List ℕ) → i ≡ 0 → f ≡ 0 → nought ≡ decimalOf i f neg gs
-unfolding decimalOf
+pub no-digit : (i f : ℕ) (neg : Bool) (gs : List ℕ) → i ≡ 0 → f ≡ 0 → nought ≡ orNought i f neg gs
+unfolding orNought
 no-digit i f neg gs a b = simp (eq-eqb (i + f) 0 (omega arith))
 
-some-digit : (i f : ℕ) (neg : Bool) (gs : List ℕ) → (i + f ≡ 0 → ⊥) → record { intg = i; frac = f; sign = neg; groups = gs } ≡ decimalOf i f neg gs
-unfolding decimalOf
+some-digit : (i f : ℕ) (neg : Bool) (gs : List ℕ) → (i + f ≡ 0 → ⊥) → decimalOf i f neg gs ≡ orNought i f neg gs
+unfolding orNought
 some-digit i f neg gs h = simp (ne-eqb (i + f) 0 h)
 
-pub digit-before : (i f : ℕ) (neg : Bool) (gs : List ℕ) → (i ≡ 0 → ⊥) → record { intg = i; frac = f; sign = neg; groups = gs } ≡ decimalOf i f neg gs
+pub digit-before : (i f : ℕ) (neg : Bool) (gs : List ℕ) → (i ≡ 0 → ⊥) → decimalOf i f neg gs ≡ orNought i f neg gs
 digit-before i f neg gs h = some-digit i f neg gs (λ (e : i + f ≡ 0). h (omega arith))
 
-pub digit-after : (i f : ℕ) (neg : Bool) (gs : List ℕ) → (f ≡ 0 → ⊥) → record { intg = i; frac = f; sign = neg; groups = gs } ≡ decimalOf i f neg gs
+pub digit-after : (i f : ℕ) (neg : Bool) (gs : List ℕ) → (f ≡ 0 → ⊥) → decimalOf i f neg gs ≡ orNought i f neg gs
 digit-after i f neg gs h = some-digit i f neg gs (λ (e : i + f ≡ 0). h (omega arith))
 
 pub groups-refused : (g : Groups) (i f : ℕ) (neg keep : Bool) → (g .refusal ≡ 0 → ⊥) → fromGroups g i f neg keep ≡ refused (g .refusal)

@@ -1,6 +1,6 @@
--- What reading a packed decimal answers (decimal.c of MySQL; document 01, 'Decimal rules'). The groups are read by `readGroups` of the crate
--- groups, with its refusals 20, 21 and 22; what is left of them without kept precision is `withoutLeading` of the crate kept; here stand the sign
--- and the packed header.
+-- What reading a packed decimal answers (decimal.c of MySQL; document 01, 'Decimal rules'; of the sign document 02, W2). The groups are read by
+-- `readGroups` of the crate groups, with its refusals 20, 21 and 22; what is left of them without kept precision is `withoutLeading` of the crate
+-- kept; here stand the sign and the packed header.
 -- Assumes nothing.
 use Prim.Native.Nat.{ℕ, _+_, _-_}
 use mathlib.Core.Bool.{Bool, true, false, cond}
@@ -8,12 +8,13 @@ use mathlib.Core.List.{List, [], _∷_}
 use lib.Dec.{ltb, eqb}
 use Rattle.groups.specs.Layout.{formOf}
 use Rattle.groups.specs.Read.{readGroups, zeros}
+use Rattle.groups.specs.Sign.{belowZero}
 use Rattle.groups.specs.declared.Groups.{Groups}
 use Rattle.kept.specs.Kept.{withoutLeading}
 use Rattle.decimal.specs.declared.Decimal.{Decimal}
 use Rattle.decimal.specs.declared.Answer.{Answer}
 
--- the first bit is set where the value is not negative
+-- the first bit is set where the bytes are not those of a negative value
 unfoldable pub negative : List ℕ → Bool
 negative [] = false
 negative (b ∷ bs) = ltb b 128
@@ -22,14 +23,18 @@ negative (b ∷ bs) = ltb b 128
 abbrev pub nought : Decimal
 nought = record { intg = 1; frac = 0; sign = false; groups = zeros }
 
--- a decimal with these parts, and positive 0 where no digit is left
+-- the decimal with these digits and groups, read with a minus or without; where the groups are all zero it is positive
 unfoldable pub decimalOf : ℕ → ℕ → Bool → List ℕ → Decimal
-decimalOf i f neg gs = cond (eqb (i + f) 0) nought (record { intg = i; frac = f; sign = neg; groups = gs })
+decimalOf i f neg gs = record { intg = i; frac = f; sign = belowZero neg gs; groups = gs }
+
+-- and positive 0 with one integral digit where no digit is left
+unfoldable pub orNought : ℕ → ℕ → Bool → List ℕ → Decimal
+orNought i f neg gs = cond (eqb (i + f) 0) nought (decimalOf i f neg gs)
 
 -- with kept precision as it was read, and else without the leading integral groups that are zero
 unfoldable pub finished : Bool → ℕ → ℕ → Bool → List ℕ → Decimal
-finished true i f neg gs = decimalOf i f neg gs
-finished false i f neg gs = decimalOf (withoutLeading i gs .intg) f neg (withoutLeading i gs .groups)
+finished true i f neg gs = orNought i f neg gs
+finished false i f neg gs = orNought (withoutLeading i gs .intg) f neg (withoutLeading i gs .groups)
 
 abbrev pub refused : ℕ → Answer
 refused n = record { refusal = n; decimal = nought }

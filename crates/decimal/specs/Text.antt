@@ -11,16 +11,14 @@ use Rattle.groups.specs.Write.{digitsTo, roomTold, roomLeaves}
 use Rattle.groups.specs.Layout.{Digits}
 use Rattle.numeral.specs.Read.{Numeral, readText}
 use Rattle.printing.specs.Print.{textOf}
-use Rattle.decimal.specs.Read.{refused, accepted}
+use Rattle.decimal.specs.Read.{decimalOf, refused, accepted}
 use Rattle.decimal.specs.Write.{isWell}
-use Rattle.order.specs.Value.{belowZero}
 use Rattle.decimal.specs.declared.Decimal.{Decimal}
 use Rattle.decimal.specs.declared.Answer.{Answer}
 
 -- the decimal with these digits, i of them before the point and f after it; a text zero is positive
 unfoldable pub ofDigits : Bool → ℕ → ℕ → List ℕ → Decimal
-ofDigits neg i f ds =
-    record { intg = i; frac = f; sign = belowZero neg (tab 9 (storedAt Digits i f ds)); groups = tab 9 (storedAt Digits i f ds) }
+ofDigits neg i f ds = decimalOf i f neg (tab 9 (storedAt Digits i f ds))
 
 abbrev pub ofNumeral : Numeral → Decimal
 ofNumeral t = ofDigits (t .negative) (t .intg) (t .frac) (t .digits)

@@ -1,5 +1,5 @@
 -- The value of a decimal is that of its sign, its integral digits and its groups, as the crate order has it: a number. Comparison is by
--- value, so 1 equals 1.0 and both zeros are equal.
+-- value, so 1 equals 1.0.
 -- Assumes nothing.
 use mathlib.Core.Bool.{cond}
 use lib.IntN.{ℤ}

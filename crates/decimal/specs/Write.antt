@@ -10,7 +10,7 @@ use Rattle.decimal.specs.declared.Decimal.{Decimal}
 
 -- the record is a decimal
 abbrev pub isWell : Decimal → Bool
-isWell d = wellFormed (d .intg) (d .frac) (d .groups)
+isWell d = wellFormed (d .sign) (d .intg) (d .frac) (d .groups)
 
 -- the size, or 26
 unfoldable pub binSize : Decimal → Told
@@ -21,7 +21,7 @@ abbrev pub packed : Decimal → List ℕ
 packed d = written (formOf (d .sign)) (d .intg) (d .frac) (d .groups)
 
 abbrev pub writeBin : Decimal → List ℕ → Told
-writeBin d out = writeTold (formOf (d .sign)) (d .intg) (d .frac) (d .groups) out
+writeBin d out = writeTold (d .sign) (d .intg) (d .frac) (d .groups) out
 
 abbrev pub binLeaves : Decimal → List ℕ → List ℕ
-binLeaves d out = writeLeaves (formOf (d .sign)) (d .intg) (d .frac) (d .groups) out
+binLeaves d out = writeLeaves (d .sign) (d .intg) (d .frac) (d .groups) out

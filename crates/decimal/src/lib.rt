@@ -14,7 +14,7 @@ ghost use Rattle.decimal.specs.Text.{parseText, printTold, printLeaves};
 ghost use Rattle.decimal.specs.Value.{compareTold};
 
 // A decimal: as many integral and fractional digits, a sign, and the digits in groups of nine from the point outwards. The groups of
-// the fraction are stored as if each had nine digits, and unused groups are 0.
+// the fraction are stored as if each had nine digits, unused groups are 0, and a zero has no sign.
 pub struct Decimal {
     pub intg: usize,
     pub frac: usize,
@@ -34,7 +34,7 @@ impl Decimal {
         ensures { λ r. ⌜ countTold r ≡ binSize self ⌝ }
     {
         let gs = self.groups;
-        if !formed::well_formed(self.intg, self.frac, &gs) {
+        if !formed::well_formed(self.sign, self.intg, self.frac, &gs) {
             return Counted::Refused(refusal::RECORD);
         }
         groups::size(self.intg + self.frac, self.frac)
@@ -88,7 +88,7 @@ impl Decimal {
         let gs = t.groups;
         Answer {
             refusal: 0,
-            decimal: reader::of_groups(t.negative, t.intg, t.frac, gs),
+            decimal: reader::decimal_of(t.intg, t.frac, t.negative, gs),
         }
     }
 

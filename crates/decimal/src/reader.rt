@@ -2,8 +2,7 @@
 use super::Answer;
 use super::Decimal;
 ghost use mathlib.Core.Path.{_≡_};
-ghost use Rattle.order.specs.Value.{belowZero};
-ghost use Rattle.decimal.specs.Read.{negative as isNegative, decimalOf, finished, refused};
+ghost use Rattle.decimal.specs.Read.{negative as isNegative, decimalOf, orNought, finished, refused};
 
 pub(crate) fn wide(b: u8) -> usize
     ensures { λ r. ⌜ r ≡ b ⌝ }
@@ -34,9 +33,22 @@ pub(crate) fn refuse(n: u8) -> Answer
     }
 }
 
-// A decimal with these parts, and positive 0 where no digit is left.
-fn decimal_of(intg: usize, frac: usize, negative: bool, groups: [u32; 9]) -> Decimal
+// The decimal with these digits and groups, read with a minus or without: a zero is positive.
+pub(crate) fn decimal_of(intg: usize, frac: usize, negative: bool, groups: [u32; 9]) -> Decimal
     ensures { λ r. ⌜ r ≡ decimalOf intg frac negative groups ⌝ }
+{
+    let sign = formed::below_zero(negative, &groups);
+    Decimal {
+        intg,
+        frac,
+        sign,
+        groups,
+    }
+}
+
+// The same, and positive 0 where no digit is left.
+fn or_nought(intg: usize, frac: usize, negative: bool, groups: [u32; 9]) -> Decimal
+    ensures { λ r. ⌜ r ≡ orNought intg frac negative groups ⌝ }
 {
     if intg == 0 && frac == 0 {
         return Decimal {
@@ -46,12 +58,7 @@ fn decimal_of(intg: usize, frac: usize, negative: bool, groups: [u32; 9]) -> Dec
             groups: [0u32; 9],
         };
     }
-    Decimal {
-        intg,
-        frac,
-        sign: negative,
-        groups,
-    }
+    decimal_of(intg, frac, negative, groups)
 }
 
 // The decimal with these groups, with its precision kept or not.
@@ -65,21 +72,9 @@ pub(crate) fn finish(
     ensures { λ r. ⌜ r ≡ finished keep intg frac negative groups ⌝ }
 {
     if keep {
-        return decimal_of(intg, frac, negative, groups);
+        return or_nought(intg, frac, negative, groups);
     }
     let k = kept::without_leading(intg, groups);
     let gs = k.groups;
-    decimal_of(k.intg, frac, negative, gs)
-}
-
-// The decimal with the groups of a text; a zero is positive.
-pub(crate) fn of_groups(negative: bool, intg: usize, frac: usize, groups: [u32; 9]) -> Decimal
-    ensures { λ r. ⌜ r ≡ record { intg = intg; frac = frac; sign = belowZero negative groups; groups = groups } ⌝ }
-{
-    Decimal {
-        intg,
-        frac,
-        sign: order::below_zero(negative, groups),
-        groups,
-    }
+    or_nought(k.intg, frac, negative, gs)
 }

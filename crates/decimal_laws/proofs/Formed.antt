@@ -1,4 +1,5 @@
--- Every decimal that is answered is well formed: its groups were read in range, without whole integral groups the others keep their digits, and 0 fits.
+-- Every decimal that is answered is well formed: its groups were read in range, without whole integral groups the others keep their digits, 0 fits,
+-- and the sign is that of the value.
 -- Assumes nothing.
 use mathlib.Core.Path.{_≡_, refl, sym, ap, _∙_}
 use mathlib.Core.Bool.{Bool, true, false, cond}
@@ -13,18 +14,20 @@ use Rattle.groups.specs.Numbers.{tab, leadingIn, Below}
 use Rattle.groups.specs.Layout.{groupsOf, side, formOf, baseOf, digitsAt, sizeIn, Form, Digits}
 use Rattle.groups.specs.Packed.{digitsIn}
 use Rattle.groups.specs.Read.{unitOf, rangeAt, storedAt, readGroups}
-use Rattle.groups.specs.Write.{digitsOk, wellAt, wellFormed}
+use Rattle.groups.specs.Sign.{belowZero, signedNought}
+use Rattle.groups.specs.Write.{digitsOk, wellAt, wellGroups, wellFormed}
 use Rattle.groups.proofs.Accept.{both-true, in-range}
 use Rattle.groups.proofs.Marks.{length-in}
 use Rattle.groups.proofs.Opened.{opened, reads, digits-range}
 use Rattle.groups.proofs.Sizes.{digits-size}
 use Rattle.groups.proofs.Tab.{tab-at, length-tab, all-each}
+use Rattle.groups.proofs.Sign.{formed-of}
 use Rattle.numeral.specs.Read.{strip, minus, unsigned, run, pointed, wholePart, fractionPart, isText, fewDigits}
 use Rattle.numeral.specs.Read.{Numeral, digitOf, digitsIn as textDigits, noNumeral, numeralOf, readUnsigned, readText}
 use Rattle.numeral.proofs.Limits.{read-within}
 use Rattle.kept.specs.Kept.{without}
 use Rattle.kept.specs.declared.Kept.{Kept}
-use Rattle.decimal.specs.Read.{negative, nought, decimalOf, finished, fromGroups, readBin, readPacked}
+use Rattle.decimal.specs.Read.{negative, nought, decimalOf, orNought, finished, fromGroups, readBin, readPacked}
 use Rattle.decimal.specs.Write.{isWell}
 use Rattle.decimal.specs.Text.{ofDigits, ofNumeral, parseText}
 use Rattle.decimal.specs.declared.Decimal.{Decimal}
@@ -35,12 +38,12 @@ use Rattle.decimal_laws.proofs.Weights.{rounded}
 use Rattle.decimal_laws.proofs.RoundTrip.{packed-base, well-of, well-read}
 
 -- ---- a group of 0 is well formed at every place, and so is nought
-zero-well : (i f k : ℕ) → wellAt i f k 0 ≡ true
+pub zero-well : (i f k : ℕ) → wellAt i f k 0 ≡ true
 unfolding wellAt
 zero-well i f k = rw (zero-mod, zero-div) (lt-ltb _ _ (pow-pos-of 10 (digitsAt i f k) (lit< tt)))
 
 nought-formed : isWell nought ≡ true
-unfolding wellFormed digitsOk wellAt unitOf digitsAt side groupsOf
+unfolding wellFormed wellGroups signedNought digitsOk wellAt unitOf digitsAt side groupsOf
 nought-formed = refl
 
 -- ---- past the first integral group all are whole: without the first z of them each place has the digits and the unit of the place z later
@@ -86,20 +89,17 @@ module _ (i f z : ℕ) (h : 1 ≤ z) (l : z ≤ groupsOf i) where
   later-well k g = rw (later-digits k, later-side k)
 
 -- ---- what holds of nought, and of a decimal of parts that were read, holds of every answer
-abbrev made : ℕ → ℕ → Bool → List ℕ → Decimal
-made i f neg gs = record { intg = i; frac = f; sign = neg; groups = gs }
-
 module _ (P : Decimal → Type 0) (none : P nought) where
-  decimal-holds : (i f : ℕ) (neg : Bool) (gs : List ℕ) → (1 ≤ i + f → P (made i f neg gs)) → P (decimalOf i f neg gs)
-  unfolding decimalOf
+  decimal-holds : (i f : ℕ) (neg : Bool) (gs : List ℕ) → (1 ≤ i + f → P (decimalOf i f neg gs)) → P (orNought i f neg gs)
+  unfolding orNought
   decimal-holds i f neg gs h = go (eqb (i + f) 0) refl
     where
-      go : (t : Bool) → eqb (i + f) 0 ≡ t → P (cond t nought (made i f neg gs))
+      go : (t : Bool) → eqb (i + f) 0 ≡ t → P (cond t nought (decimalOf i f neg gs))
       go true e = none
       go false e = h (pos-of-ne-zero (eqb-false (i + f) 0 e))
 
-  finished-holds : (keep : Bool) (i f : ℕ) (neg : Bool) (gs : List ℕ) → (1 ≤ i + f → P (made i f neg gs))
-      → ((z : ℕ) → 1 ≤ z → z ≤ groupsOf i → 1 ≤ left i z + f → P (made (left i z) f neg (later z gs))) → P (finished keep i f neg gs)
+  finished-holds : (keep : Bool) (i f : ℕ) (neg : Bool) (gs : List ℕ) → (1 ≤ i + f → P (decimalOf i f neg gs))
+      → ((z : ℕ) → 1 ≤ z → z ≤ groupsOf i → 1 ≤ left i z + f → P (decimalOf (left i z) f neg (later z gs))) → P (finished keep i f neg gs)
   unfolding finished without
   finished-holds true i f neg gs whole less = decimal-holds i f neg gs whole
   finished-holds false i f neg gs whole less = go (eqb z 0) refl
@@ -110,7 +110,7 @@ module _ (P : Decimal → Type 0) (none : P nought) where
       kept : Bool → Kept
       kept t = cond t (record { intg = i; groups = gs }) (record { intg = left i z; groups = later z gs })
 
-      go : (t : Bool) → eqb z 0 ≡ t → P (decimalOf (kept t .intg) f neg (kept t .groups))
+      go : (t : Bool) → eqb z 0 ≡ t → P (orNought (kept t .intg) f neg (kept t .groups))
       go true e = decimal-holds i f neg gs whole
       go false e = decimal-holds (left i z) f neg (later z gs) (less z (pos-of-ne-zero (eqb-false z 0 e)) (leading-le (groupsOf i) gs))
 
@@ -121,6 +121,7 @@ module _ (P : Decimal → Type 0) (none : P nought) where
 -- ---- groups that were read
 module _ (i f : ℕ) (gs : List ℕ) (n : length gs ≡ 9) where
   finished-nine : (keep neg : Bool) → length (finished keep i f neg gs .groups) ≡ 9
+  unfolding decimalOf
   finished-nine keep neg = finished-holds (λ d. length (d .groups) ≡ 9) refl keep i f neg gs (λ a. n) (λ z a b c. length-tab 9 _)
 
   module _ (l : i + f ≤ 65) (m : f ≤ 30) (w : (k : ℕ) → k < 9 → wellAt i f k (getD gs k 0) ≡ true) where
@@ -132,15 +133,17 @@ module _ (i f : ℕ) (gs : List ℕ) (n : length gs ≡ 9) where
         go true e = w k (ltb-true k 9 e)
         go false e = rw (List·getD-eq-default gs 0 {n = k} (rw n (ltb-false k 9 e))) (zero-well i f k)
 
-    later-formed : (z : ℕ) → 1 ≤ z → z ≤ groupsOf i → 1 ≤ left i z + f → wellFormed (left i z) f (later z gs) ≡ true
+    later-formed : (z : ℕ) → 1 ≤ z → z ≤ groupsOf i → 1 ≤ left i z + f → wellGroups (left i z) f (later z gs) ≡ true
     later-formed z a b c =
         let q = left-le i f z a b in
         well-of (left i z) f (later z gs) c (omega arith) m
         (λ k j. rw (tab-at 9 (λ k. getD gs (k + z) 0) k j, later-well i f z a b k) (each-place (k + z)))
 
     finished-formed : (keep neg : Bool) → isWell (finished keep i f neg gs) ≡ true
+    unfolding decimalOf
     finished-formed keep neg =
-        finished-holds (λ d. isWell d ≡ true) nought-formed keep i f neg gs (λ a. well-of i f gs a l m w) later-formed
+        finished-holds (λ d. isWell d ≡ true) nought-formed keep i f neg gs (λ a. formed-of neg i f gs (well-of i f gs a l m w))
+        (λ z a b c. formed-of neg (left i z) f (later z gs) (later-formed z a b c))
 
 -- what is read of bytes is refused, or made of the groups in them
 abbrev formAt : List ℕ → Form
@@ -218,11 +221,11 @@ text-holds P none bs h =
     answer-holds P none (eqb (readText bs .refusal) 0) (ofNumeral (readText bs)) (readText bs .refusal) (λ q. h (eqb-true _ _ q))
 
 pub parse-nine : (bs : List ℕ) → length (parseText bs .decimal .groups) ≡ 9
-unfolding ofDigits
+unfolding ofDigits decimalOf
 parse-nine bs = text-holds (λ d. length (d .groups) ≡ 9) refl bs (λ e. length-tab 9 _)
 
 pub parse-formed : (bs : List ℕ) → isWell (parseText bs .decimal) ≡ true
-unfolding ofDigits
+unfolding ofDigits decimalOf
 parse-formed bs = text-holds (λ d. isWell d ≡ true) nought-formed bs well
   where
     well : readText bs .refusal ≡ 0 → isWell (ofNumeral (readText bs)) ≡ true
@@ -233,4 +236,6 @@ parse-formed bs = text-holds (λ d. isWell d ≡ true) nought-formed bs well
         let c = read-counts bs e in
         let r = read-within bs e in
         let m : sizeIn Digits i f ≤ length ds = rw (digits-size i f (r .0) (r .1 .0)) (c .1) in
-        well-of i f (tab 9 (storedAt Digits i f ds)) (c .0) (r .1 .0) (r .0) (well-read Digits i f ds (r .1 .1) m (digits-range i f ds (r .1 .1) m))
+        let gs = tab 9 (storedAt Digits i f ds) in
+        formed-of (readText bs .negative) i f gs
+        (well-of i f gs (c .0) (r .1 .0) (r .0) (well-read Digits i f ds (r .1 .1) m (digits-range i f ds (r .1 .1) m)))

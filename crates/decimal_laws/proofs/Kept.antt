@@ -1,7 +1,7 @@
 -- Reading without kept precision refuses the same inputs and gives the same value: it leaves out leading groups that are 0 and so count nothing.
 -- Assumes nothing.
 use mathlib.Core.Path.{_≡_, refl, sym, ap, _∙_}
-use mathlib.Core.Bool.{Bool, true, false, cond}
+use mathlib.Core.Bool.{Bool, true, false, cond, not}
 use mathlib.Core.List.{List, [], _∷_, _++_}
 use Prim.Native.Nat.{ℕ, zero, suc, _+_, _-_, _*_, _^_, _≤_, _<_}
 use native.Mathlib.Nat.{zero-mul, zero-sub, mul-assoc}
@@ -16,17 +16,19 @@ use Rattle.groups.specs.Numbers.{number, tab, leadingIn}
 use Rattle.groups.specs.Layout.{width, groupsOf, side, formOf, wideOf, digitsAt, Form, Plain, Inverted, Digits}
 use Rattle.groups.specs.Packed.{digitsIn}
 use Rattle.groups.specs.Read.{groupAt, storedAt, readGroups}
+use Rattle.groups.specs.Sign.{isNought, belowZero}
 use Rattle.groups.proofs.Accept.{in-range}
 use Rattle.groups.proofs.Tab.{tab-at, length-tab, filled}
 use Rattle.groups.proofs.Opened.{opened, reads}
 use Rattle.kept.specs.Kept.{without}
 use Rattle.kept.specs.declared.Kept.{Kept}
-use Rattle.decimal.specs.Read.{negative, nought, decimalOf, finished, refused, accepted, fromGroups, readBin, readPacked}
+use Rattle.decimal.specs.Read.{negative, nought, decimalOf, orNought, finished, refused, accepted, fromGroups, readBin, readPacked}
 use Rattle.order.specs.Value.{magnitude, signed}
 use Rattle.decimal.specs.Value.{value}
 use Rattle.decimal.specs.declared.Decimal.{Decimal}
 use Rattle.decimal.specs.declared.Answer.{Answer}
 use Rattle.order.proofs.Lex.{zeros-before, zeros-after, at-after, all-zero}
+use Rattle.order.proofs.Values.{nought-number}
 
 -- ---- leading zeros
 pub leading-le : (n : ℕ) (gs : List ℕ) → leadingIn n gs ≤ n
@@ -88,15 +90,24 @@ pub zero-value : (neg : Bool) (n : ℕ) (gs : List ℕ) → number 1000000000 gs
 unfolding magnitude
 zero-value neg n gs h = rw (h, zero-mul) (signed-zero neg)
 
-value-of : (i f : ℕ) (neg : Bool) (gs : List ℕ) → (i + f ≡ 0 → number 1000000000 gs ≡ 0)
-    → value (decimalOf i f neg gs) ≡ signed neg (magnitude (groupsOf i) gs)
-unfolding value decimalOf
-value-of i f neg gs h = go (eqb (i + f) 0) refl
+-- a zero that is read with a minus has the same value without it
+pub sign-value : (neg : Bool) (n : ℕ) (gs : List ℕ) → length gs ≡ 9 → signed (belowZero neg gs) (magnitude n gs) ≡ signed neg (magnitude n gs)
+unfolding belowZero
+sign-value false n gs l = refl
+sign-value true n gs l = go (isNought gs) refl
   where
-    go : (t : Bool) → eqb (i + f) 0 ≡ t
-        → value (cond t nought (record { intg = i; frac = f; sign = neg; groups = gs })) ≡ signed neg (magnitude (groupsOf i) gs)
+    go : (t : Bool) → isNought gs ≡ t → signed (not t) (magnitude n gs) ≡ signed true (magnitude n gs)
+    go true e = let z = eqb-true _ _ (sym (nought-number gs l) ∙ e) in zero-value false n gs z ∙ sym (zero-value true n gs z)
+    go false e = refl
+
+value-of : (i f : ℕ) (neg : Bool) (gs : List ℕ) → length gs ≡ 9 → (i + f ≡ 0 → number 1000000000 gs ≡ 0)
+    → value (orNought i f neg gs) ≡ signed neg (magnitude (groupsOf i) gs)
+unfolding value decimalOf orNought
+value-of i f neg gs l h = go (eqb (i + f) 0) refl
+  where
+    go : (t : Bool) → eqb (i + f) 0 ≡ t → value (cond t nought (decimalOf i f neg gs)) ≡ signed neg (magnitude (groupsOf i) gs)
     go true q = nought-value ∙ sym (zero-value neg (groupsOf i) gs (h (eqb-true (i + f) 0 q)))
-    go false q = refl
+    go false q = sign-value neg (groupsOf i) gs l
 
 -- ---- the precision kept or not
 pub whole-groups : (m : ℕ) → groupsOf (9 * m) ≡ m
@@ -109,7 +120,7 @@ groups-le i h = omega arith
 
 -- the decimal of what is kept, with f digits after the point
 abbrev of-kept : ℕ → Bool → Kept → Decimal
-of-kept f neg k = decimalOf (k .intg) f neg (k .groups)
+of-kept f neg k = orNought (k .intg) f neg (k .groups)
 
 either-value : (f : ℕ) (neg : Bool) (t : Bool) (a b : Kept) → value (of-kept f neg b) ≡ value (of-kept f neg a) → value (of-kept f neg (cond t a b)) ≡ value (of-kept f neg a)
 either-value f neg true a b h = refl
@@ -128,17 +139,17 @@ module _ (i f : ℕ) (neg : Bool) (gs : List ℕ) (e : length gs ≡ 9) (l : i �
       sym (leading-number 1000000000 (groupsOf i) gs)
       ∙ all-zero 1000000000 (drop z gs) (λ k j. getD-drop z gs k 0 ∙ h q (z + k) (omega arith) (omega arith))
 
-  kept-value : value (decimalOf i f neg gs) ≡ signed neg (magnitude (groupsOf i) gs)
+  kept-value : value (orNought i f neg gs) ≡ signed neg (magnitude (groupsOf i) gs)
   unfolding groupsOf
-  kept-value = value-of i f neg gs (λ (q : i + f ≡ 0). none-left (omega arith) (omega arith))
+  kept-value = value-of i f neg gs e (λ (q : i + f ≡ 0). none-left (omega arith) (omega arith))
 
-  without-value : value (decimalOf (9 * (groupsOf i - leadingIn (groupsOf i) gs)) f neg (tab 9 (λ k. getD gs (k + leadingIn (groupsOf i) gs) 0)))
+  without-value : value (orNought (9 * (groupsOf i - leadingIn (groupsOf i) gs)) f neg (tab 9 (λ k. getD gs (k + leadingIn (groupsOf i) gs) 0)))
       ≡ signed neg (magnitude (groupsOf i) gs)
   without-value =
       let n = groupsOf i in
       let z = leadingIn n gs in
       let m = groups-le i l in
-      value-of (9 * (n - z)) f neg (tab 9 (λ k. getD gs (k + z) 0))
+      value-of (9 * (n - z)) f neg (tab 9 (λ k. getD gs (k + z) 0)) (length-tab 9 _)
       (λ (q : 9 * (n - z) + f ≡ 0). without-number n gs e m 1000000000 ∙ rw (none-left (omega arith) (omega arith), zero-mul))
       ∙ rw (whole-groups (n - z), without-magnitude n gs e m)
 

@@ -19,7 +19,7 @@ use Rattle.groups.proofs.Marks.{length-in}
 use Rattle.groups.proofs.Sizes.{packed-size, size-pos}
 use Rattle.groups.proofs.Tab.{tab-at, length-tab, filled}
 use Rattle.kept.specs.Kept.{without}
-use Rattle.decimal.specs.Read.{negative, nought, decimalOf, finished, refused, accepted, fromGroups, readBin, readPacked}
+use Rattle.decimal.specs.Read.{negative, nought, orNought, finished, refused, accepted, fromGroups, readBin, readPacked}
 use Rattle.decimal_laws.proofs.Bytes.{after}
 use Rattle.decimal_laws.proofs.Places.{range-front, stored-front}
 
@@ -28,7 +28,7 @@ leb-zero : (n : ℕ) → leb 0 n ≡ true
 leb-zero n = le-leb 0 n (omega arith)
 
 no-digits : (neg keep : Bool) (bs : List ℕ) → fromGroups (readGroups (formOf neg) bs 0 0) 0 0 neg keep ≡ accepted nought
-unfolding readGroups groupsIn inRange rangeAt storedAt groupAt unitOf digitsAt side groupsOf width offset number tab fromGroups finished without decimalOf leadingIn
+unfolding readGroups groupsIn inRange rangeAt storedAt groupAt unitOf digitsAt side groupsOf width offset number tab fromGroups finished without orNought leadingIn
 no-digits true true bs = simp (leb-zero (length bs))
 no-digits true false bs = simp (leb-zero (length bs))
 no-digits false true bs = simp (leb-zero (length bs))

@@ -1,5 +1,6 @@
 pub mod Bytes
 pub mod Places
+pub mod Zero
 pub mod RoundTrip
 pub mod Kept
 pub mod Later
@@ -8,6 +9,7 @@ pub mod Trimmed
 pub mod Reparsed
 pub mod Printed
 pub mod Formed
+pub mod Positive
 pub mod Meaning
 pub mod Lengths
 pub mod Answers

@@ -11,6 +11,7 @@ use Rattle.groups.specs.Layout.{groupsOf, Digits}
 use Rattle.groups.specs.Read.{storedAt}
 use Rattle.numeral.specs.Read.{readText}
 use Rattle.numeral.proofs.Limits.{read-within}
+use Rattle.decimal.specs.Read.{decimalOf}
 use Rattle.decimal.specs.Write.{isWell}
 use Rattle.order.specs.Value.{magnitude}
 use Rattle.decimal.specs.Text.{ofDigits, ofNumeral, parseText, digitsOf}
@@ -39,7 +40,7 @@ parsed-text bs e = not-refused (readText bs .refusal) (ofNumeral (readText bs)) 
 pub text-value : (bs : List ℕ) → parseText bs .refusal ≡ 0
     → magnitude (groupsOf (parseText bs .decimal .intg)) (parseText bs .decimal .groups)
     ≡ number 10 (take (readText bs .intg + readText bs .frac) (readText bs .digits)) * 10 ^ (81 - readText bs .frac)
-unfolding ofDigits
+unfolding ofDigits decimalOf
 text-value bs e =
     let z = parsed-text bs e in
     let r = read-within bs z in

@@ -14,7 +14,7 @@ use borrow.Author.Tests.{ltb-true, ltb-false, eqb-true, lt-ltb}
 use Rattle.groups.specs.Numbers.{number, digits, all}
 use Rattle.groups.specs.Layout.{width, groupsOf, side, formOf, baseOf, wideOf, digitsAt, offset, sizeIn, Form, Plain, Inverted, Digits}
 use Rattle.groups.specs.Read.{groupAt, rangeAt, storedAt, unitOf}
-use Rattle.groups.specs.Write.{groupDigits, digitsTo, wellAt, wellFormed, digitsOk}
+use Rattle.groups.specs.Write.{groupDigits, digitsTo, wellAt, wellGroups, digitsOk}
 use Rattle.groups.proofs.Accept.{both-true}
 use Rattle.groups.proofs.Tab.{all-each}
 use Rattle.groups.proofs.Radix.{number-digits, length-digits}
@@ -93,8 +93,8 @@ holds Plain d h = ten-fits d h
 holds Inverted d h = ten-fits d h
 holds Digits d h = le-refl (10 ^ d)
 
-pub each-well : (i f : ℕ) (gs : List ℕ) → wellFormed i f gs ≡ true → (k : ℕ) → k < 9 → wellAt i f k (getD gs k 0) ≡ true
-unfolding wellFormed
+pub each-well : (i f : ℕ) (gs : List ℕ) → wellGroups i f gs ≡ true → (k : ℕ) → k < 9 → wellAt i f k (getD gs k 0) ≡ true
+unfolding wellGroups
 each-well i f gs w = all-each (λ k. wellAt i f k (getD gs k 0)) 9 (both-true (digitsOk i f) (all 9 (λ k. wellAt i f k (getD gs k 0))) w .1)
 
 module _ (F : Form) (i f : ℕ) (gs : List ℕ) (k : ℕ) (m : k < 9) (w : wellAt i f k (getD gs k 0) ≡ true) where

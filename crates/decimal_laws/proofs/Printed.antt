@@ -1,4 +1,4 @@
--- Printing then parsing gives an equal value, as only zeros at the front are lost; and the same record where none is and no sign stands on zero.
+-- Printing then parsing gives an equal value, as only zeros at the front are lost; and the same record where none is.
 -- Assumes nothing.
 use mathlib.Core.Path.{_≡_, refl, sym, ap, _∙_}
 use mathlib.Core.Bool.{Bool, true, false, cond, not}
@@ -14,16 +14,18 @@ use borrow.Author.Tests.{eq-eqb, ne-eqb, eqb-true, not-true}
 use Rattle.groups.specs.Numbers.{number, tab, Below}
 use Rattle.groups.specs.Layout.{sizeIn, Digits}
 use Rattle.groups.specs.Read.{storedAt}
+use Rattle.groups.specs.Write.{wellGroups}
 use Rattle.groups.proofs.Accept.{well-digits}
+use Rattle.groups.proofs.Sign.{formed-groups, formed-sign}
 use Rattle.groups.proofs.Tab.{tab-at, length-tab, filled}
 use Rattle.groups.proofs.Opened.{below-drop}
 use Rattle.groups.proofs.Sizes.{digits-size}
 use Rattle.groups.proofs.Store.{length-to, to-below}
 use Rattle.numeral.specs.Read.{Numeral, readText}
 use Rattle.printing.specs.Print.{show, signText, wholeDigits, fractionText}
-use Rattle.decimal.specs.Read.{accepted}
+use Rattle.decimal.specs.Read.{decimalOf, accepted}
 use Rattle.decimal.specs.Write.{isWell}
-use Rattle.order.specs.Value.{magnitude, signed, isNought, belowZero}
+use Rattle.order.specs.Value.{signed}
 use Rattle.decimal.specs.Value.{value}
 use Rattle.decimal.specs.Text.{ofDigits, ofNumeral, parseText, digitsOf, printed}
 use Rattle.decimal.specs.declared.Decimal.{Decimal}
@@ -31,7 +33,7 @@ use Rattle.decimal.specs.declared.Answer.{Answer}
 use Rattle.decimal.proofs.Texts.{text-read}
 use Rattle.decimal_laws.specs.Same.{Same}
 use Rattle.decimal_laws.proofs.Places.{stored-front, each-well, stored-written}
-use Rattle.decimal_laws.proofs.Kept.{zero-value}
+use Rattle.decimal_laws.proofs.Kept.{sign-value}
 use Rattle.decimal_laws.proofs.Weights.{row-magnitude}
 use Rattle.decimal_laws.proofs.Trimmed.{Trimmed, trimmed-number, trimmed-length, trimmed-same, trimmed-below, bare}
 use Rattle.decimal_laws.proofs.Trimmed.{whole-trims, whole-number, whole-some, whole-size, whole-below}
@@ -54,26 +56,6 @@ tab-front i f ds rest hf h e =
     filled 9 (storedAt Digits i f ds) (tab 9 (storedAt Digits i f (ds ++ rest))) (length-tab 9 _)
     (λ k m. tab-at 9 (storedAt Digits i f (ds ++ rest)) k m ∙ stored-front Digits i f ds rest l k m)
 
--- ---- the sign: a zero loses it, and has the same value without it
-sign-value : (neg : Bool) (n : ℕ) (gs : List ℕ) → signed (belowZero neg gs) (magnitude n gs) ≡ signed neg (magnitude n gs)
-unfolding belowZero isNought
-sign-value false n gs = refl
-sign-value true n gs = go (eqb (number 1000000000 gs) 0) refl
-  where
-    go : (b : Bool) → eqb (number 1000000000 gs) 0 ≡ b → signed (not b) (magnitude n gs) ≡ signed true (magnitude n gs)
-    go true e = let z = eqb-true _ _ e in zero-value false n gs z ∙ sym (zero-value true n gs z)
-    go false e = refl
-
-sign-same : (neg : Bool) (gs : List ℕ) → (neg ≡ true → isNought gs ≡ false) → belowZero neg gs ≡ neg
-unfolding belowZero
-sign-same true gs h = rw (h refl)
-sign-same false gs h = refl
-
-sign-kept : (neg : Bool) (gs : List ℕ) → belowZero neg gs ≡ neg → neg ≡ true → isNought gs ≡ false
-unfolding belowZero
-sign-kept true gs h e = not-true (isNought gs) h
-sign-kept false gs h e = cc
-
 -- ---- a decimal's digits: the integral ones that are printed, those of them that are read again, and those of the fraction
 abbrev pub wholeOf : Decimal → List ℕ
 wholeOf d = wholeDigits (d .intg) (digitsOf d)
@@ -85,8 +67,11 @@ abbrev pub fractionOf : Decimal → List ℕ
 fractionOf d = drop (d .intg) (digitsOf d)
 
 module _ (d : Decimal) (w : isWell d ≡ true) where
+  in-groups : wellGroups (d .intg) (d .frac) (d .groups) ≡ true
+  in-groups = formed-groups (d .sign) (d .intg) (d .frac) (d .groups) w
+
   pub limits : (1 ≤ d .intg + d .frac) × ((d .intg + d .frac ≤ 65) × (d .frac ≤ 30))
-  limits = well-digits (d .intg) (d .frac) (d .groups) w
+  limits = well-digits (d .intg) (d .frac) (d .groups) in-groups
 
   pub digits-count : length (digitsOf d) ≡ d .intg + d .frac
   digits-count = length-to Digits (d .intg) (d .frac) (d .groups) 9 ∙ digits-size (d .intg) (d .frac) (limits .1 .1) (limits .1 .0)
@@ -102,7 +87,7 @@ module _ (d : Decimal) (w : isWell d ≡ true) where
 
   pub groups-are : length (d .groups) ≡ 9 → tab 9 (storedAt Digits (d .intg) (d .frac) (digitsOf d)) ≡ d .groups
   groups-are n =
-      sym (filled 9 _ (d .groups) n (λ k l. sym (stored-written Digits (d .intg) (d .frac) (d .groups) k l (each-well (d .intg) (d .frac) (d .groups) w k l))))
+      sym (filled 9 _ (d .groups) n (λ k l. sym (stored-written Digits (d .intg) (d .frac) (d .groups) k l (each-well (d .intg) (d .frac) (d .groups) in-groups k l))))
 
   pub printed-is : printed d ≡ signText (d .sign) ++ (map show (wholeOf d) ++ tailOf (fractionOf d))
   unfolding printed
@@ -139,12 +124,12 @@ module _ (d : Decimal) (w : isWell d ≡ true) where
       ∙ ap (λ (t : Numeral). accepted (ofNumeral t)) read-back
 
   back-value : length (d .groups) ≡ 9 → value (ofDigits (d .sign) (length (backOf d)) (d .frac) (backOf d ++ fractionOf d)) ≡ value d
-  unfolding value ofDigits
+  unfolding value ofDigits decimalOf
   back-value n =
       let h = limits in
       let p = row-magnitude (length (backOf d)) (d .frac) (backOf d ++ fractionOf d) (h .1 .1) back-fits back-count in
       let q = row-magnitude (d .intg) (d .frac) (digitsOf d) (h .1 .1) (h .1 .0) digits-count in
-      sign-value (d .sign) _ _ ∙ ap (signed (d .sign)) (p ∙ rw back-number (sym (rw (groups-are n) at q)))
+      sign-value (d .sign) _ _ (length-tab 9 _) ∙ ap (signed (d .sign)) (p ∙ rw back-number (sym (rw (groups-are n) at q)))
 
   -- ---- the same record
   plain-text : d .sign ≡ false → printed d ≡ map show (wholeOf d) ++ tailOf (fractionOf d)
@@ -165,19 +150,17 @@ module _ (d : Decimal) (w : isWell d ≡ true) where
       back-whole s ∙ trimmed-same (whole-trims (d .intg) (digitsOf d) (s .integral) whole-fits) (s .as-long ∙ sym n)
 
   same-comes-back : length (d .groups) ≡ 9 → Same d → parseText (printed d) ≡ accepted d
-  unfolding ofDigits
+  unfolding ofDigits decimalOf
   same-comes-back n s =
       let l = length-take-le (d .intg) (digitsOf d) whole-fits in
-      let g = sign-same (d .sign) (d .groups) (s .no-sign) in
+      let g = formed-sign (d .sign) (d .intg) (d .frac) (d .groups) w in
       parsed ∙ rw (back-digits s, l, take-append-drop (d .intg) (digitsOf d), groups-are n, g)
 
   back-is-same : parseText (printed d) ≡ accepted d → Same d
-  unfolding ofDigits
+  unfolding ofDigits decimalOf
   back-is-same h =
       let q = sym parsed ∙ h in
       let i : length (backOf d) ≡ d .intg = ap (λ (a : Answer). a .decimal .intg) q in
-      let g : tab 9 (storedAt Digits (length (backOf d)) (d .frac) (backOf d ++ fractionOf d)) ≡ d .groups = ap (λ (a : Answer). a .decimal .groups) q in
-      let s : belowZero (d .sign) (d .groups) ≡ d .sign = rw g at (ap (λ (a : Answer). a .decimal .sign) q) in
       let m = back-trims .some in
       let t = trimmed-length back-trims in
       let u = whole-size (d .intg) (digitsOf d) whole-fits in
@@ -189,7 +172,6 @@ module _ (d : Decimal) (w : isWell d ≡ true) where
             let r = zeros-go (wholeOf d) (fractionOf d) a (rw (plain-text e) at z) in
             let b : length (bare (wholeOf d)) ≡ d .intg = rw e at i in
             omega arith);
-        no-sign = sign-kept (d .sign) (d .groups) s;
       }
 
 -- ---- the laws

@@ -1,4 +1,5 @@
--- Reading then writing gives back the digit bytes read; writing then reading gives back a well formed decimal. Both with kept precision.
+-- Reading then writing gives back the digit bytes read, but for a negative zero, whose bytes come back as the positive zero's; writing then
+-- reading gives back a well formed decimal. Both with kept precision.
 -- Assumes nothing.
 use mathlib.Core.Path.{_≡_, refl, sym, ap, _∙_}
 use mathlib.Core.Bool.{Bool, true, false, cond}
@@ -15,7 +16,8 @@ use Rattle.groups.specs.Numbers.{tab, all, Below}
 use Rattle.groups.specs.Layout.{formOf, baseOf, wideOf, digitsAt, offset, sizeIn, size, Form}
 use Rattle.groups.specs.Packed.{digitsIn}
 use Rattle.groups.specs.Read.{groupAt, rangeAt, storedAt, unitOf, readGroups}
-use Rattle.groups.specs.Write.{digitsOk, groupDigits, digitsTo, wellAt, wellFormed, written}
+use Rattle.groups.specs.Write.{digitsOk, groupDigits, digitsTo, wellAt, wellGroups, written}
+use Rattle.groups.specs.Sign.{belowZero}
 use Rattle.groups.specs.declared.Groups.{Groups}
 use Rattle.groups.proofs.Accept.{in-range, well-digits}
 use Rattle.groups.proofs.Tab.{tab-at, filled, all-true, all-each}
@@ -25,14 +27,17 @@ use Rattle.groups.proofs.Places.{within, unit-pos}
 use Rattle.groups.proofs.Opened.{opened, reads, below-drop, range-of}
 use Rattle.groups.proofs.Store.{length-to, length-written, to-below}
 use Rattle.groups.proofs.Room.{writes}
+use Rattle.groups.proofs.Sign.{formed-groups, formed-sign, formed-of}
 use Rattle.groups.proofs.Sizes.{packed-size, size-pos}
-use Rattle.decimal.specs.Read.{negative, decimalOf, finished, refused, accepted, fromGroups, readBin}
+use Rattle.decimal.specs.Read.{negative, decimalOf, orNought, finished, refused, accepted, fromGroups, readBin}
 use Rattle.decimal.specs.Write.{isWell, packed, writeBin, binLeaves}
 use Rattle.decimal.specs.declared.Decimal.{Decimal}
 use Rattle.decimal.specs.declared.Answer.{Answer}
 use Rattle.decimal.proofs.Cases.{groups-read}
+use Rattle.decimal_laws.specs.Zero.{comesBack}
 use Rattle.decimal_laws.proofs.Bytes.{digits-below, read-bytes, after, write-bytes, write-sign}
 use Rattle.decimal_laws.proofs.Places.{range-front, stored-front, each-well, range-written, stored-written, first-byte}
+use Rattle.decimal_laws.proofs.Zero.{comes-back}
 
 -- ---- groups that were read, written again
 module _ (F : Form) (i f : ℕ) (ds : List ℕ) (h : Below (baseOf F) ds) (l : sizeIn F i f ≤ length ds) where
@@ -67,8 +72,8 @@ groups-of g i f neg keep e = not-refused (g .refusal) (finished keep i f neg (g 
 
 module _ (bs : List ℕ) (p s : ℕ) where
   pub kept : 1 ≤ p → readBin bs p s true .refusal ≡ 0
-      → readBin bs p s true ≡ accepted (record { intg = p - s; frac = s; sign = negative bs; groups = tab 9 (storedAt (formOf (negative bs)) (p - s) s (digitsIn (formOf (negative bs)) bs)) })
-  unfolding readBin finished decimalOf
+      → readBin bs p s true ≡ accepted (decimalOf (p - s) s (negative bs) (tab 9 (storedAt (formOf (negative bs)) (p - s) s (digitsIn (formOf (negative bs)) bs))))
+  unfolding readBin finished orNought
   kept l e =
       let z = groups-of (readGroups (formOf (negative bs)) bs p s) (p - s) s (negative bs) true e in
       let o = opened (formOf (negative bs)) bs p s z in
@@ -81,16 +86,16 @@ pub packed-base : (neg : Bool) → baseOf (formOf neg) ≡ 256
 packed-base true = refl
 packed-base false = refl
 
-pub well-of : (i f : ℕ) (gs : List ℕ) → 1 ≤ i + f → i + f ≤ 65 → f ≤ 30 → ((k : ℕ) → k < 9 → wellAt i f k (getD gs k 0) ≡ true) → wellFormed i f gs ≡ true
-unfolding wellFormed digitsOk
+pub well-of : (i f : ℕ) (gs : List ℕ) → 1 ≤ i + f → i + f ≤ 65 → f ≤ 30 → ((k : ℕ) → k < 9 → wellAt i f k (getD gs k 0) ≡ true) → wellGroups i f gs ≡ true
+unfolding wellGroups digitsOk
 well-of i f gs a b c h = simp (le-leb _ _ a, le-leb _ _ b, le-leb _ _ c) (all-true (λ k. wellAt i f k (getD gs k 0)) 9 h)
 
 -- ---- the laws
--- Reading then writing: the digit bytes read, and nothing else changes.
+-- Reading then writing: what the digit bytes read come back as, and nothing else changes.
 pub read-write : (bs out : List ℕ) (p s : ℕ) → Below 256 bs → 1 ≤ p → readBin bs p s true .refusal ≡ 0 → size (p - s) s ≤ length out
     → let d = readBin bs p s true .decimal in
-    (isWell d ≡ true) × ((writeBin d out ≡ answer (size (p - s) s ∷ [])) × (binLeaves d out ≡ take (size (p - s) s) bs ++ drop (size (p - s) s) out))
-unfolding readBin written
+    (isWell d ≡ true) × ((writeBin d out ≡ answer (size (p - s) s ∷ [])) × (binLeaves d out ≡ comesBack (take (size (p - s) s) bs) ++ drop (size (p - s) s) out))
+unfolding readBin written decimalOf
 read-write bs out p s h l e n =
     let neg = negative bs in
     let F = formOf neg in
@@ -101,14 +106,17 @@ read-write bs out p s h l e n =
     let b : Below (baseOf F) ds = rw (packed-base neg) (digits-below neg bs h) in
     let m : sizeIn F (p - s) s ≤ length ds = rw (length-in F bs) (o .1 .0) in
     let gs = tab 9 (storedAt F (p - s) s ds) in
-    let w : wellFormed (p - s) s gs ≡ true =
+    let v = belowZero neg gs in
+    let g : wellGroups (p - s) s gs ≡ true =
     well-of (p - s) s gs (omega arith) (omega arith) (r .1 .0) (well-read F (p - s) s ds b m (all-each (rangeAt F (p - s) s ds) 9 (o .1 .1))) in
-    let y = writes F (p - s) s gs out w (rw (packed-size neg (p - s) s) n) in
+    let w = formed-of neg (p - s) s gs g in
+    let y = writes v (p - s) s gs out w (rw (packed-size v (p - s) s) n) in
     let t : written F (p - s) s gs ≡ take (sizeIn F (p - s) s) bs = rw (again F (p - s) s ds b m 9 (le-refl 9)) (read-bytes neg bs h (sizeIn F (p - s) s)) in
-    rw (kept bs p s l e) (w, (rw (packed-size neg (p - s) s) at (y .0), rw (packed-size neg (p - s) s) at (y .1 ∙ ap (λ (x : List ℕ). x ++ drop (sizeIn F (p - s) s) out) t)))
+    let u : written (formOf v) (p - s) s gs ≡ comesBack (take (size (p - s) s) bs) = sym (comes-back (p - s) s gs g neg) ∙ ap comesBack (rw (packed-size neg (p - s) s) at t) in
+    rw (kept bs p s l e) (w, (rw (packed-size v (p - s) s) at (y .0), rw (packed-size v (p - s) s) at (y .1 ∙ ap (λ (x : List ℕ). x ++ drop (sizeIn (formOf v) (p - s) s) out) u)))
 
 -- groups that were written, read again
-module _ (neg : Bool) (i f : ℕ) (gs rest : List ℕ) (n : length gs ≡ 9) (w : wellFormed i f gs ≡ true) where
+module _ (neg : Bool) (i f : ℕ) (gs rest : List ℕ) (n : length gs ≡ 9) (w : wellGroups i f gs ≡ true) where
   some : 0 < length (digitsTo (formOf neg) i f gs 9)
   some = let h = well-digits i f gs w in rw (length-to (formOf neg) i f gs 9, packed-size neg i f) (size-pos i f (h .1 .0) (h .0))
 
@@ -137,10 +145,12 @@ module _ (neg : Bool) (i f : ℕ) (gs rest : List ℕ) (n : length gs ≡ 9) (w 
 
 -- Writing then reading, whatever follows: the decimal.
 pub write-read : (d : Decimal) (rest : List ℕ) → length (d .groups) ≡ 9 → isWell d ≡ true → readBin (packed d ++ rest) (d .intg + d .frac) (d .frac) true ≡ accepted d
-unfolding readBin finished decimalOf
+unfolding readBin finished orNought decimalOf
 write-read d rest n w =
-    let h = well-digits (d .intg) (d .frac) (d .groups) w in
+    let g = formed-groups (d .sign) (d .intg) (d .frac) (d .groups) w in
+    let h = well-digits (d .intg) (d .frac) (d .groups) g in
     let z : eqb (d .intg + d .frac) 0 ≡ false = ne-eqb (d .intg + d .frac) 0 (λ (q : d .intg + d .frac ≡ 0). omega arith) in
     let e : d .intg + d .frac - d .frac ≡ d .intg = omega arith in
-    rw (sign-back (d .sign) (d .intg) (d .frac) (d .groups) rest n w, groups-back (d .sign) (d .intg) (d .frac) (d .groups) rest n w, e)
-    (groups-read (record { refusal = 0; groups = d .groups }) (d .intg) (d .frac) (d .sign) true refl ∙ simp z)
+    rw (sign-back (d .sign) (d .intg) (d .frac) (d .groups) rest n g, groups-back (d .sign) (d .intg) (d .frac) (d .groups) rest n g, e)
+    (groups-read (record { refusal = 0; groups = d .groups }) (d .intg) (d .frac) (d .sign) true refl
+    ∙ simp (z, formed-sign (d .sign) (d .intg) (d .frac) (d .groups) w))

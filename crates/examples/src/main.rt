@@ -111,13 +111,13 @@ fn order(a: &[u8], b: &[u8]) {
     say_order(d.compare(e));
 }
 
-// The order of the negative zero in these bytes and a text's value.
-fn order_zero(bytes: &[u8], precision: usize, b: &[u8]) {
+// The order of the values in digit bytes and in a text.
+fn order_bin(bytes: &[u8], precision: usize, b: &[u8]) {
     let x = Decimal::read_bin(bytes, precision, 0, true);
     let y = Decimal::parse_str_bytes(b);
     let d = x.decimal;
     let e = y.decimal;
-    say_decimal(d);
+    say_hex(bytes, bytes.len());
     say(b" and ");
     say(b);
     say_order(d.compare(e));
@@ -157,6 +157,44 @@ fn written(a: &[u8], room: &mut [u8]) {
         Counted::Refused(r) => say_refused(r),
     }
     say(b"\n");
+}
+
+// The digit bytes that a decimal writes.
+fn say_bin(d: Decimal) {
+    let mut room = [0u8; 36];
+    match d.write_bin(&mut room) {
+        Counted::Bytes(n) => say_hex(&room, n),
+        Counted::Refused(r) => say_refused(r),
+    }
+}
+
+// What digit bytes come back as when they are read with kept precision and written.
+fn back(bytes: &[u8], precision: usize, scale: usize) {
+    let x = Decimal::read_bin(bytes, precision, scale, true);
+    let d = x.decimal;
+    say_hex(bytes, bytes.len());
+    say(b" comes back as ");
+    say_bin(d);
+    say(b"\n");
+}
+
+// A record whose groups are all zero, with a sign or without.
+fn zero_record(name: &[u8], sign: bool) {
+    let d = Decimal {
+        intg: 1,
+        frac: 1,
+        sign,
+        groups: [0u32; 9],
+    };
+    say(name);
+    say(b" prints ");
+    say_decimal(d);
+    say(b", takes ");
+    say_count(d.bin_size());
+    say(b", writes ");
+    say_bin(d);
+    say(b"; beside itself");
+    say_order(d.compare(d));
 }
 
 fn packed_examples() {
@@ -204,8 +242,16 @@ fn order_examples() {
     order(b"9", b"100");
     order(b"1", b"1.0");
     order(b"1", b".1");
-    order_zero(&[0x7F], 2, b"0");
+    order_bin(&[0x7F], 2, b"0");
     order(b"-9", b"-100");
+}
+
+fn zero_examples() {
+    back(&[0x7F, 0xFF], 2, 1);
+    back(&[0x7F, 0xFE], 2, 1);
+    back(&[0x80, 0x00], 2, 1);
+    zero_record(b"record 0.0", false);
+    zero_record(b"record 0.0 with a sign", true);
 }
 
 fn width_examples() {
@@ -230,6 +276,7 @@ fn main() {
     long_text_examples();
     more_text_examples();
     order_examples();
+    zero_examples();
     width_examples();
     written_examples();
 }

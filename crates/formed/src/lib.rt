@@ -1,10 +1,11 @@
-// Which records are decimals: digits within the limits, each group below the power of its digits, and all others 0.
+// Which records are decimals: digits within the limits, each group below the power of its digits, all others 0, and no sign on zero.
 ghost use mathlib.Core.Path.{_≡_};
 ghost use Prim.Native.Nat.{_+_, _≤_};
 ghost use lib.ListN.{getD};
 ghost use Rattle.groups.specs.Numbers.{all};
 ghost use Rattle.groups.specs.Course.{cappedAt};
-ghost use Rattle.groups.specs.Write.{digitsOk, wellAt, wellFormed};
+ghost use Rattle.groups.specs.Sign.{isNought, belowZero};
+ghost use Rattle.groups.specs.Write.{digitsOk, wellAt, wellGroups, wellFormed};
 
 // Whether the first t groups have at most nine digits, and the others are 0.
 fn capped(groups: &[u32; 9], t: usize) -> bool
@@ -60,12 +61,40 @@ fn digits_ok(intg: usize, frac: usize) -> bool
     intg + frac <= 65
 }
 
-// Whether these digits and groups are those of a decimal.
-pub fn well_formed(intg: usize, frac: usize, groups: &[u32; 9]) -> bool
-    ensures { λ r. ⌜ r ≡ wellFormed intg frac (now (groups .entry)) ⌝ }
+// Whether a decimal may have these digits and groups.
+fn well_groups(intg: usize, frac: usize, groups: &[u32; 9]) -> bool
+    ensures { λ r. ⌜ r ≡ wellGroups intg frac (now (groups .entry)) ⌝ }
 {
     if !digits_ok(intg, frac) {
         return false;
     }
     all_well(intg, frac, groups)
+}
+
+fn is_zero(groups: &[u32; 9]) -> bool
+    ensures { λ r. ⌜ r ≡ isNought (now (groups .entry)) ⌝ }
+{
+    for k in 0..9 {
+        if groups[k] > 0 {
+            return false;
+        }
+    }
+    true
+}
+
+// The sign of a decimal that is read with these groups, from bytes or text that say negative or not: a zero is positive.
+pub fn below_zero(negative: bool, groups: &[u32; 9]) -> bool
+    ensures { λ r. ⌜ r ≡ belowZero negative (now (groups .entry)) ⌝ }
+{
+    if negative { !is_zero(groups) } else { false }
+}
+
+// Whether this sign, these digits and these groups are those of a decimal.
+pub fn well_formed(negative: bool, intg: usize, frac: usize, groups: &[u32; 9]) -> bool
+    ensures { λ r. ⌜ r ≡ wellFormed negative intg frac (now (groups .entry)) ⌝ }
+{
+    if !well_groups(intg, frac, groups) {
+        return false;
+    }
+    if negative { !is_zero(groups) } else { true }
 }

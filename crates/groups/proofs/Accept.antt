@@ -8,7 +8,7 @@ use lib.Dec.{T, leb}
 use borrow.Author.Tests.{leb-true}
 use Rattle.groups.specs.Numbers.{both}
 use Rattle.groups.specs.Read.{inRange}
-use Rattle.groups.specs.Write.{digitsOk, wellFormed}
+use Rattle.groups.specs.Write.{digitsOk, wellGroups}
 
 pub both-true : (a b : Bool) → both a b ≡ true → (a ≡ true) × (b ≡ true)
 both-true true b e = (refl, e)
@@ -40,6 +40,6 @@ digits-ok i f e =
 pub not-ok : (i f : ℕ) → ((1 ≤ i + f) × ((i + f ≤ 65) × (f ≤ 30)) → ⊥) → digitsOk i f ≡ false
 not-ok i f h = is-false (digitsOk i f) (λ e. h (digits-ok i f e))
 
-pub well-digits : (i f : ℕ) (gs : List ℕ) → wellFormed i f gs ≡ true → (1 ≤ i + f) × ((i + f ≤ 65) × (f ≤ 30))
-unfolding wellFormed
+pub well-digits : (i f : ℕ) (gs : List ℕ) → wellGroups i f gs ≡ true → (1 ≤ i + f) × ((i + f ≤ 65) × (f ≤ 30))
+unfolding wellGroups
 well-digits i f gs e = digits-ok i f (both-true (digitsOk i f) _ e .0)

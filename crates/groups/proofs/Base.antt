@@ -12,13 +12,13 @@ use borrow.Author.Tests.{ltb-true, ltb-false, eqb-true}
 use Rattle.groups.specs.Numbers.{all, Below}
 use Rattle.groups.specs.Layout.{digitsAt}
 use Rattle.groups.specs.Read.{unitOf}
-use Rattle.groups.specs.Write.{digitsOk, wellAt, wellFormed}
+use Rattle.groups.specs.Write.{digitsOk, wellAt, wellGroups}
 use Rattle.groups.proofs.Accept.{both-true}
 use Rattle.groups.proofs.Tab.{all-each}
 use Rattle.groups.proofs.Places.{stored-lt, digits-le}
 
-pub well-below : (i f : ℕ) (gs : List ℕ) → length gs ≡ 9 → wellFormed i f gs ≡ true → Below 1000000000 gs
-unfolding wellFormed wellAt
+pub well-below : (i f : ℕ) (gs : List ℕ) → length gs ≡ 9 → wellGroups i f gs ≡ true → Below 1000000000 gs
+unfolding wellGroups wellAt
 well-below i f gs e h k = go (ltb k 9) refl
   where
     u : ℕ

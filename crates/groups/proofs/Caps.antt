@@ -14,7 +14,7 @@ use borrow.Author.Tests.{ltb-true, ltb-false, lt-ltb, le-ltb, eqb-true, eq-eqb}
 use Rattle.groups.specs.Numbers.{both, all}
 use Rattle.groups.specs.Layout.{groupsOf, side, digitsAt}
 use Rattle.groups.specs.Read.{unitOf}
-use Rattle.groups.specs.Write.{digitsOk, wellAt, wellFormed}
+use Rattle.groups.specs.Write.{digitsOk, wellAt, wellGroups}
 use Rattle.groups.specs.Course.{cappedAt}
 use Rattle.groups.proofs.Accept.{both-true, is-false}
 use Rattle.groups.proofs.Tab.{all-true, all-false, all-each}
@@ -169,6 +169,6 @@ module _ (i f : ℕ) (gs : List ℕ) where
         same-test (all 9 well) (eqb (getD gs k 0 % 10 ^ (9 * groupsOf f - f)) 0)
         (λ w. eq-eqb (getD gs k 0 % 10 ^ (9 * groupsOf f - f)) 0 (well-last i f k (getD gs k 0) h s (all-each well 9 w k (omega arith)))) (λ e. all-of (eqb-true (getD gs k 0 % 10 ^ (9 * groupsOf f - f)) 0 e))
 
-pub well-groups : (i f : ℕ) (gs : List ℕ) → wellFormed i f gs ≡ true → (k : ℕ) → k < 9 → getD gs k 0 < 1000000000
-unfolding wellFormed
+pub well-groups : (i f : ℕ) (gs : List ℕ) → wellGroups i f gs ≡ true → (k : ℕ) → k < 9 → getD gs k 0 < 1000000000
+unfolding wellGroups
 well-groups i f gs e = well-bound i f gs (both-true (digitsOk i f) (all 9 (well i f gs)) e .1)

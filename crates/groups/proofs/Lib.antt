@@ -12,4 +12,5 @@ pub mod Room
 pub mod Opened
 pub mod Caps
 pub mod Widths
+pub mod Sign
 pub mod Sides

@@ -16,7 +16,7 @@ use Rattle.groups.specs.Numbers.{number, tab, all, Below}
 use Rattle.groups.specs.Layout.{digitsAt, offset, sizeIn, size, Form, Digits}
 use Rattle.groups.specs.Packed.{digitsIn}
 use Rattle.groups.specs.Read.{inRange, groupAt, rangeAt, storedAt, noGroups, groupsIn, readGroups}
-use Rattle.groups.specs.Write.{sizeOf, wellFormed}
+use Rattle.groups.specs.Write.{sizeOf, wellGroups}
 use Rattle.groups.proofs.Accept.{well-digits}
 use Rattle.groups.proofs.Places.{within}
 
@@ -46,7 +46,7 @@ range-of i f hf h = simp (le-leb (i + f) 65 h, le-leb f 30 hf, le-leb f (i + f) 
 integral : (i f : ℕ) → i + f - f ≡ i
 integral i f = omega arith
 
-pub well-size : (i f : ℕ) (gs : List ℕ) → wellFormed i f gs ≡ true → sizeOf (i + f) f ≡ answer (size i f ∷ [])
+pub well-size : (i f : ℕ) (gs : List ℕ) → wellGroups i f gs ≡ true → sizeOf (i + f) f ≡ answer (size i f ∷ [])
 unfolding sizeOf
 well-size i f gs w = let h = well-digits i f gs w in simp (range-of i f (h .1 .1) (h .1 .0), integral i f)
 

@@ -6,8 +6,8 @@ use Prim.Native.Nat.{ℕ, _≤_, _<_}
 use lib.ListN.{length, drop}
 use borrow.Author.Tests.{le-leb, lt-leb}
 use Rattle.refusal.specs.Told.{answer, refusal}
-use mathlib.Core.Bool.{true}
-use Rattle.groups.specs.Layout.{sizeIn, Form}
+use mathlib.Core.Bool.{Bool, true}
+use Rattle.groups.specs.Layout.{formOf, sizeIn}
 use Rattle.groups.specs.Write.{wellFormed, written, roomTold, roomLeaves, writeTold, writeLeaves}
 use Rattle.groups.proofs.Store.{length-written}
 
@@ -19,7 +19,11 @@ pub fits : (bs out : List ℕ) {n : ℕ} → length bs ≡ n → n ≤ length ou
 unfolding roomTold roomLeaves
 fits bs out e h = let l = le-leb _ _ h in (simp (e, l), simp (e, l))
 
-pub writes : (F : Form) (i f : ℕ) (gs out : List ℕ) → wellFormed i f gs ≡ true → sizeIn F i f ≤ length out
-    → (writeTold F i f gs out ≡ answer (sizeIn F i f ∷ [])) × (writeLeaves F i f gs out ≡ written F i f gs ++ drop (sizeIn F i f) out)
+pub writes : (neg : Bool) (i f : ℕ) (gs out : List ℕ) → wellFormed neg i f gs ≡ true → sizeIn (formOf neg) i f ≤ length out
+    → (writeTold neg i f gs out ≡ answer (sizeIn (formOf neg) i f ∷ []))
+    × (writeLeaves neg i f gs out ≡ written (formOf neg) i f gs ++ drop (sizeIn (formOf neg) i f) out)
 unfolding writeTold writeLeaves
-writes F i f gs out w l = let r = fits (written F i f gs) out (length-written F i f gs) l in (simp (w, r .0), simp (w, r .1))
+writes neg i f gs out w l =
+    let F = formOf neg in
+    let r = fits (written F i f gs) out (length-written F i f gs) l in
+    (simp (w, r .0), simp (w, r .1))

@@ -1,15 +1,16 @@
 -- What a well formed decimal is, and what writing its groups answers and leaves (the function is that of `writing`; what is said of room is `printing`'s too): 26, then 25, else the count of bytes; only these change.
 -- Assumes nothing.
 use Prim.Native.Nat.{ℕ, zero, suc, _+_, _-_, _/_, _%_, _^_}
-use mathlib.Core.Bool.{Bool, cond}
+use mathlib.Core.Bool.{Bool, cond, not}
 use mathlib.Core.List.{List, [], _∷_, _++_}
 use lib.Dec.{leb, ltb, eqb}
 use lib.ListN.{length, getD, drop}
 use Rattle.refusal.specs.Told.{Told, answer, refusal}
 use Rattle.groups.specs.Numbers.{digits, both, all}
-use Rattle.groups.specs.Layout.{digitsAt, baseOf, wideOf, size, Form}
+use Rattle.groups.specs.Layout.{digitsAt, formOf, baseOf, wideOf, size, Form}
 use Rattle.groups.specs.Packed.{bytesOf}
 use Rattle.groups.specs.Read.{inRange, unitOf}
+use Rattle.groups.specs.Sign.{signedNought}
 use Rattle.groups.specs.declared.Counted.{Counted}
 use Rattle.groups.specs.declared.Counted.the-variants.{Bytes, Refused}
 
@@ -30,9 +31,13 @@ digitsOk i f = both (leb 1 (i + f)) (both (leb (i + f) 65) (leb f 30))
 unfoldable pub wellAt : ℕ → ℕ → ℕ → ℕ → Bool
 wellAt i f k g = both (eqb (g % unitOf i k (digitsAt i f k)) 0) (ltb (g / unitOf i k (digitsAt i f k)) (10 ^ digitsAt i f k))
 
--- what 26 is not: digits and groups in range, the last group scaled, unused groups 0
-unfoldable pub wellFormed : ℕ → ℕ → List ℕ → Bool
-wellFormed i f gs = both (digitsOk i f) (all 9 (λ k. wellAt i f k (getD gs k 0)))
+-- digits and groups in range, the last group scaled, unused groups 0
+unfoldable pub wellGroups : ℕ → ℕ → List ℕ → Bool
+wellGroups i f gs = both (digitsOk i f) (all 9 (λ k. wellAt i f k (getD gs k 0)))
+
+-- what 26 is not: all that, and no sign on zero
+unfoldable pub wellFormed : Bool → ℕ → ℕ → List ℕ → Bool
+wellFormed neg i f gs = both (wellGroups i f gs) (not (signedNought neg gs))
 
 -- the digits of the group g at place k
 unfoldable pub groupDigits : Form → ℕ → ℕ → ℕ → ℕ → List ℕ
@@ -54,9 +59,9 @@ roomTold bs out = cond (leb (length bs) (length out)) (answer (length bs ∷ [])
 unfoldable pub roomLeaves : List ℕ → List ℕ → List ℕ
 roomLeaves bs out = cond (leb (length bs) (length out)) (bs ++ drop (length bs) out) out
 
--- the answer, and the output afterwards
-unfoldable pub writeTold : Form → ℕ → ℕ → List ℕ → List ℕ → Told
-writeTold F i f gs out = cond (wellFormed i f gs) (roomTold (written F i f gs) out) (refusal 26)
+-- the answer, and the output afterwards; a negative decimal is inverted
+unfoldable pub writeTold : Bool → ℕ → ℕ → List ℕ → List ℕ → Told
+writeTold neg i f gs out = cond (wellFormed neg i f gs) (roomTold (written (formOf neg) i f gs) out) (refusal 26)
 
-unfoldable pub writeLeaves : Form → ℕ → ℕ → List ℕ → List ℕ → List ℕ
-writeLeaves F i f gs out = cond (wellFormed i f gs) (roomLeaves (written F i f gs) out) out
+unfoldable pub writeLeaves : Bool → ℕ → ℕ → List ℕ → List ℕ → List ℕ
+writeLeaves neg i f gs out = cond (wellFormed neg i f gs) (roomLeaves (written (formOf neg) i f gs) out) out

@@ -3,8 +3,9 @@
 use mathlib.Core.Path.{_≡_, refl, sym, ap, _∙_}
 use mathlib.Core.Bool.{Bool, true, false, cond}
 use mathlib.Core.List.{List, [], _∷_, _++_}
+use mathlib.Core.Logic.{⊎-elim}
 use Prim.Native.Nat.{ℕ, zero, suc, _+_, _-_, _*_, _^_, _≤_, _<_}
-use native.Mathlib.Nat.{le-of-suc-le-suc, not-suc-le-zero, pow-zero, pow-succ', zero-mul, zero-add, mul-le-mul-right, mul-lt-mul-of-pos-right, sub-zero, suc-sub-suc, le-refl, le-of-lt, mul-pos, pos-of-ne-zero}
+use native.Mathlib.Nat.{le-of-suc-le-suc, not-suc-le-zero, pow-zero, pow-succ', zero-mul, zero-add, mul-le-mul-right, mul-lt-mul-of-pos-right, sub-zero, suc-sub-suc, le-refl, le-of-lt, mul-pos, eq-zero-or-pos}
 use native.Mathlib.Omega.{arith}
 use lib.Dec.{ltb, lit<, leb·suc-suc}
 use lib.Pow.{pow-add}
@@ -151,13 +152,12 @@ order-scaled m n xs ys e =
     rw e (simp (scaled (number 1000000000 xs) (number 1000000000 ys) (1000000000 ^ n) p, scaled (number 1000000000 ys) (number 1000000000 xs) (1000000000 ^ n) p))
 
 -- ---- zero
-pub nonzero : (b : ℕ) (xs : List ℕ) (k : ℕ) → 0 < b → (getD xs k 0 ≡ 0 → ⊥) → (number b xs ≡ 0 → ⊥)
+pub zero-each : (b : ℕ) (xs : List ℕ) → 0 < b → number b xs ≡ 0 → (k : ℕ) → getD xs k 0 ≡ 0
 unfolding number
-nonzero b [] k p h e = h refl
-nonzero b (x ∷ xs) zero p h e =
-    let q = mul-pos (pos-of-ne-zero h) (pow-pos-of b (length xs) p) in
-    omega arith
-nonzero b (x ∷ xs) (suc k) p h e = nonzero b xs k p h (omega arith)
+zero-each b [] p e k = refl
+zero-each b (x ∷ xs) p e zero =
+    ⊎-elim (λ z. z) (λ q. let r = mul-pos q (pow-pos-of b (length xs) p) in absurd (omega arith)) (eq-zero-or-pos x)
+zero-each b (x ∷ xs) p e (suc k) = zero-each b xs p (omega arith) k
 
 pub all-zero : (b : ℕ) (xs : List ℕ) → ((k : ℕ) → k < length xs → getD xs k 0 ≡ 0) → number b xs ≡ 0
 unfolding number

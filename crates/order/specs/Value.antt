@@ -1,9 +1,8 @@
--- The value of a decimal is a number: a sign and a natural at a fixed scale. Comparison is by value, so 1 equals 1.0 and both zeros are equal.
+-- The value of a decimal is a number: a sign and a natural at a fixed scale. Comparison is by value, so 1 equals 1.0.
 -- Assumes nothing.
 use Prim.Native.Nat.{ℕ, _*_, _^_}
-use mathlib.Core.Bool.{Bool, true, false, cond, not}
+use mathlib.Core.Bool.{Bool, true, false, cond}
 use mathlib.Core.List.{List, [], _∷_}
-use lib.Dec.{eqb}
 use lib.IntN.{ℤ, pos, negℤ}
 use lib.Signed.{ltZ}
 use Rattle.refusal.specs.Told.{Told, answer, refusal}
@@ -25,14 +24,6 @@ signed false m = pos m
 abbrev pub valueOf : Bool → ℕ → List ℕ → ℤ
 valueOf neg i gs = signed neg (magnitude (groupsOf i) gs)
 
--- groups of a zero
-unfoldable pub isNought : List ℕ → Bool
-isNought gs = eqb (number 1000000000 gs) 0
-
--- negative, and no zero
-unfoldable pub belowZero : Bool → List ℕ → Bool
-belowZero neg gs = both neg (not (isNought gs))
-
 -- an answer of the comparison: less, equal and greater are told by 0, 1 and 2
 abbrev pub told : Compared → Told
 told Less = answer (0 ∷ [])
@@ -47,4 +38,4 @@ orderZ x y = cond (ltZ x y) Less (cond (ltZ y x) Greater Equal)
 -- of two decimals, each by its sign, its digits before and after the point, and its groups: less, equal or greater by value, or 26
 unfoldable pub compareTold : Bool → ℕ → ℕ → List ℕ → Bool → ℕ → ℕ → List ℕ → Told
 compareTold na ia fa ga nb ib fb gb =
-    cond (both (wellFormed ia fa ga) (wellFormed ib fb gb)) (told (orderZ (valueOf na ia ga) (valueOf nb ib gb))) (refusal 26)
+    cond (both (wellFormed na ia fa ga) (wellFormed nb ib fb gb)) (told (orderZ (valueOf na ia ga) (valueOf nb ib gb))) (refusal 26)

@@ -3,7 +3,8 @@ ghost use mathlib.Core.Path.{_≡_};
 ghost use Prim.Native.Nat.{_<_, _≤_};
 ghost use lib.ListN.{length, getD};
 ghost use Rattle.groups.specs.Numbers.{number};
-ghost use Rattle.order.specs.Value.{magnitude, valueOf, isNought, belowZero, told, orderZ, compareTold};
+ghost use Rattle.groups.specs.Sign.{belowZero};
+ghost use Rattle.order.specs.Value.{magnitude, valueOf, told, orderZ, compareTold};
 ghost use Rattle.order.specs.Course.{NineGroups, placed, orderN};
 
 // The order of two decimals by value, or a refusal.
@@ -76,50 +77,23 @@ fn order_of(a: &[u32; 9], m: usize, b: &[u32; 9], n: usize) -> Compared
     }
 }
 
-fn is_zero(a: &[u32; 9]) -> bool
-    requires { ⌜ length (now a) ≡ 9 ⌝ }
-    ensures { λ r. ⌜ r ≡ isNought (now (a .entry)) ⌝ }
-{
-    for k in 0..9 {
-        if a[k] != 0 {
-            return false;
-        }
-    }
-    true
-}
-
-fn is_below(negative: bool, a: &[u32; 9]) -> bool
-    requires { ⌜ length (now a) ≡ 9 ⌝ }
-    ensures { λ r. ⌜ r ≡ belowZero negative (now (a .entry)) ⌝ }
-{
-    if negative { !is_zero(a) } else { false }
-}
-
-// Whether the value with this sign and these groups is below zero: a zero is not, whatever its sign.
-pub fn below_zero(negative: bool, groups: [u32; 9]) -> bool
-    ensures { λ r. ⌜ r ≡ belowZero negative groups ⌝ }
-{
-    is_below(negative, &groups)
-}
-
-// The order of two values.
+// The order of two values, neither of which is a zero with a sign.
 fn compare_values(na: bool, ia: usize, a: &[u32; 9], nb: bool, ib: usize, b: &[u32; 9]) -> Compared
     requires { ⌜ (ia ≤ 65) × (ib ≤ 65) ⌝ }
     requires { ⌜ NineGroups (now a) × NineGroups (now b) ⌝ }
+    requires { ⌜ (belowZero na (now a) ≡ na) × (belowZero nb (now b) ≡ nb) ⌝ }
     ensures { λ r. ⌜ r ≡ orderZ (valueOf na ia (now (a .entry))) (valueOf nb ib (now (b .entry))) ⌝ }
 {
     let m = (ia + 8) / 9;
     let n = (ib + 8) / 9;
-    let below_a = is_below(na, a);
-    let below_b = is_below(nb, b);
-    if below_a {
-        if below_b {
+    if na {
+        if nb {
             order_of(b, n, a, m)
         } else {
             Compared::Less
         }
     } else {
-        if below_b {
+        if nb {
             Compared::Greater
         } else {
             order_of(a, m, b, n)
@@ -140,10 +114,10 @@ pub fn compare(
 ) -> Compared
     ensures { λ r. ⌜ told r ≡ compareTold na ia fa ga nb ib fb gb ⌝ }
 {
-    if !formed::well_formed(ia, fa, &ga) {
+    if !formed::well_formed(na, ia, fa, &ga) {
         return Compared::Refused(refusal::RECORD);
     }
-    if !formed::well_formed(ib, fb, &gb) {
+    if !formed::well_formed(nb, ib, fb, &gb) {
         return Compared::Refused(refusal::RECORD);
     }
     // Copied after the tests, so that the compiler holds no group while it tests.

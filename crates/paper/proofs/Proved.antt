@@ -6,10 +6,11 @@ use Rattle.groups.specs.Numbers.{number, digits, tab, leadingIn}
 use Rattle.groups.specs.Layout.{width, groupsOf, side, digitsAt, offset}
 use Rattle.groups.specs.Packed.{flip, flipFirst, digitsIn}
 use Rattle.groups.specs.Read.{inRange, groupAt, rangeAt, unitOf, storedAt, groupsIn, readGroups}
-use Rattle.groups.specs.Write.{digitsOk, wellAt, wellFormed, groupDigits, digitsTo}
+use Rattle.groups.specs.Sign.{isNought, belowZero, signedNought}
+use Rattle.groups.specs.Write.{digitsOk, wellAt, wellGroups, wellFormed, groupDigits, digitsTo}
 use Rattle.printing.specs.Print.{unpadded, wholeDigits, fractionText}
 use Rattle.kept.specs.Kept.{without}
-use Rattle.decimal.specs.Read.{negative, decimalOf, finished, fromGroups, readBin, readPacked}
+use Rattle.decimal.specs.Read.{negative, decimalOf, orNought, finished, fromGroups, readBin, readPacked}
 use Rattle.decimal.specs.Text.{printed}
 use Rattle.raw.specs.Numbers.{value, le}
 use Rattle.length_field.specs.Length.{groups}
@@ -31,5 +32,5 @@ use Rattle.paths.specs.Shown.{cut, flat, ends, shown}
 use Rattle.paper.specs.Paper.{Row, Thing, prints, printedOr, rootView, asked, table}
 
 pub proved : map (λ (r : Row × Said Thing). asked (r .0)) table ≡ map (λ (r : Row × Said Thing). r .1) table
-unfolding prints digitsOk wellAt wellFormed number digits tab width groupsOf side digitsAt offset flip flipFirst digitsIn inRange groupAt rangeAt unitOf storedAt groupsIn readGroups groupDigits digitsTo unpadded wholeDigits fractionText negative decimalOf leadingIn without finished fromGroups readBin readPacked printed printedOr value le groups searched typeOf literalType offsetSize keyEntry keyPlace valuePlace headerSize offsetAt headerAt literalAt numberAt partAt stringAt contentAt placeFault readAt headerRead pointedAt typedEntry entryAt keyOf keyEntryAt rootRead matches gated elemAt keyAt rootView startOf valueStart lead run kindCode bytesFrom isText gather tree paths lastOf said scan cut flat ends shown asked
+unfolding prints isNought belowZero signedNought digitsOk wellAt wellGroups wellFormed number digits tab width groupsOf side digitsAt offset flip flipFirst digitsIn inRange groupAt rangeAt unitOf storedAt groupsIn readGroups groupDigits digitsTo unpadded wholeDigits fractionText negative decimalOf orNought leadingIn without finished fromGroups readBin readPacked printed printedOr value le groups searched typeOf literalType offsetSize keyEntry keyPlace valuePlace headerSize offsetAt headerAt literalAt numberAt partAt stringAt contentAt placeFault readAt headerRead pointedAt typedEntry entryAt keyOf keyEntryAt rootRead matches gated elemAt keyAt rootView startOf valueStart lead run kindCode bytesFrom isText gather tree paths lastOf said scan cut flat ends shown asked
 proved = refl

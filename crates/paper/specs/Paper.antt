@@ -159,8 +159,8 @@ table =
     -- "99", and a group out of range
     ∷ (digits (0xE3 ∷ []) 2 0 true, says (text (57 ∷ 57 ∷ [])))
     ∷ (digits (0xE4 ∷ []) 2 0 true, refuses 22)
-    -- "-0" with kept precision, "0" without
-    ∷ (digits (0x7F ∷ []) 2 0 true, says (text (45 ∷ 48 ∷ [])))
+    -- "0" both ways, with kept precision and without (document 02, W2)
+    ∷ (digits (0x7F ∷ []) 2 0 true, says (text (48 ∷ [])))
     ∷ (digits (0x7F ∷ []) 2 0 false, says (text (48 ∷ [])))
     -- an array of true and -2
     ∷ (root trueAndMinusTwo, container false false 1 2 10)

@@ -14,7 +14,7 @@ use borrow.Author.Tests.{lt-ltb, le-ltb, eq-eqb, ne-eqb, leb-true, leb-false, lt
 use Rattle.groups.specs.Numbers.{digits, all}
 use Rattle.groups.specs.Layout.{groupsOf, side, digitsAt, Digits}
 use Rattle.groups.specs.Read.{unitOf}
-use Rattle.groups.specs.Write.{groupDigits, digitsTo, digitsOk, wellAt, wellFormed}
+use Rattle.groups.specs.Write.{groupDigits, digitsTo, digitsOk, wellAt, wellGroups}
 use Rattle.groups.proofs.Radix.{length-digits}
 use Rattle.groups.proofs.Accept.{both-true, well-digits}
 use Rattle.groups.proofs.Tab.{all-each}
@@ -312,8 +312,8 @@ point-count n (suc f) gs =
 
 -- ---- the whole text
 -- the first group has no more digits than its place
-first-fits : (i f : ℕ) (gs : List ℕ) → wellFormed i f gs ≡ true → 1 ≤ i → getD gs 0 0 < 10 ^ firstDigits i
-unfolding wellFormed wellAt
+first-fits : (i f : ℕ) (gs : List ℕ) → wellGroups i f gs ≡ true → 1 ≤ i → getD gs 0 0 < 10 ^ firstDigits i
+unfolding wellGroups wellAt
 first-fits i f gs w h =
     let a = both-true (digitsOk i f) (all 9 (λ j. wellAt i f j (getD gs j 0))) w in
     let p = all-each (λ j. wellAt i f j (getD gs j 0)) 9 (a .1) 0 (lit< tt) in
@@ -323,7 +323,7 @@ first-fits i f gs w h =
     let l = ltb-true (g / u) (10 ^ digitsAt i f 0) (b .1) in
     rw (integral-unit i f 0 (digitsAt i f 0) (groups-some i h), div-one g, first-at i f h) at l
 
-pub text-is : (neg : Bool) (i f : ℕ) (gs : List ℕ) (w : ℕ) → wellFormed i f gs ≡ true → Significant w (getD gs 0 0)
+pub text-is : (neg : Bool) (i f : ℕ) (gs : List ℕ) (w : ℕ) → wellGroups i f gs ≡ true → Significant w (getD gs 0 0)
     → textOf neg i f (digitsTo Digits i f gs 9) ≡ signText neg ++ (wholeText (groupsOf i) w gs ++ pointText (groupsOf i) f gs)
 text-is neg i f gs w v s =
     let h = well-digits i f gs v in

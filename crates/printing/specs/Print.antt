@@ -45,7 +45,7 @@ groupsText neg i f gs = textOf neg i f (digitsTo Digits i f gs 9)
 
 -- the answer, and the output afterwards: 26 before 25
 unfoldable pub printTold : Bool → ℕ → ℕ → List ℕ → List ℕ → Told
-printTold neg i f gs out = cond (wellFormed i f gs) (roomTold (groupsText neg i f gs) out) (refusal 26)
+printTold neg i f gs out = cond (wellFormed neg i f gs) (roomTold (groupsText neg i f gs) out) (refusal 26)
 
 unfoldable pub printLeaves : Bool → ℕ → ℕ → List ℕ → List ℕ → List ℕ
-printLeaves neg i f gs out = cond (wellFormed i f gs) (roomLeaves (groupsText neg i f gs) out) out
+printLeaves neg i f gs out = cond (wellFormed neg i f gs) (roomLeaves (groupsText neg i f gs) out) out

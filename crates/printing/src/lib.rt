@@ -7,7 +7,7 @@ ghost use mathlib.Core.List.{_∷_, _++_, map};
 ghost use Prim.Native.Nat.{_+_, _-_, _*_, _/_, _%_, _^_, _<_, _≤_};
 ghost use lib.ListN.{length, take, drop};
 ghost use Rattle.groups.specs.Numbers.{digits};
-ghost use Rattle.groups.specs.Write.{told, wellFormed, digitsTo, roomTold, roomLeaves};
+ghost use Rattle.groups.specs.Write.{told, wellGroups, digitsTo, roomTold, roomLeaves};
 ghost use Rattle.groups.specs.Layout.{Digits};
 ghost use Rattle.printing.specs.Print.{show, signText, textOf, printTold, printLeaves};
 ghost use Rattle.printing.specs.Course.{nines, wholeText, wholeLength, pointText, fractionLength, Significant};
@@ -190,9 +190,9 @@ fn text_len(sign: bool, whole: usize, frac: usize) -> usize
     if sign { 1 + n } else { n }
 }
 
-// Prints a well formed decimal to the front of the output, and counts the characters. A refusal changes nothing.
+// Prints well formed groups and a sign to the front of the output, and counts the characters. A refusal changes nothing.
 fn print_well(out: &mut [u8], sign: bool, intg: usize, frac: usize, groups: &[u32; 9]) -> Counted
-    requires { ⌜ (wellFormed intg frac (now groups) ≡ true) × (length (now groups) ≡ 9) ⌝ }
+    requires { ⌜ (wellGroups intg frac (now groups) ≡ true) × (length (now groups) ≡ 9) ⌝ }
     ensures { λ r. ⌜ told r ≡ roomTold (textOf sign intg frac (digitsTo Digits intg frac (now (groups .entry)) 9)) (now (out .entry)) ⌝ }
     ensures { λ _. ⌜ now (out .exit) ≡ roomLeaves (textOf sign intg frac (digitsTo Digits intg frac (now (groups .entry)) 9)) (now (out .entry)) ⌝ }
 {
@@ -212,7 +212,7 @@ pub fn print(out: &mut [u8], sign: bool, intg: usize, frac: usize, groups: [u32;
     ensures { λ r. ⌜ told r ≡ printTold sign intg frac groups (now (out .entry)) ⌝ }
     ensures { λ _. ⌜ now (out .exit) ≡ printLeaves sign intg frac groups (now (out .entry)) ⌝ }
 {
-    if !formed::well_formed(intg, frac, &groups) {
+    if !formed::well_formed(sign, intg, frac, &groups) {
         return Counted::Refused(refusal::RECORD);
     }
     print_well(out, sign, intg, frac, &groups)

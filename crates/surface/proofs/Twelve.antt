@@ -12,10 +12,11 @@ use lib.ListN.{length, getD}
 use Rattle.refusal.specs.Told.{Told, answer, refusal}
 use Rattle.groups.specs.Numbers.{both}
 use Rattle.groups.specs.Layout.{width, digitsAt, formOf, wideOf, offset}
-use Rattle.groups.specs.Write.{told, digitsOk, wellFormed, written, roomTold, writeTold, writeLeaves}
+use Rattle.groups.specs.Write.{told, digitsOk, wellGroups, wellFormed, written, roomTold, writeTold, writeLeaves}
 use Rattle.groups.specs.declared.Counted.{Counted}
 use Rattle.groups.specs.declared.Counted.the-variants.{Bytes, Refused}
 use Rattle.groups.proofs.Accept.{well-digits}
+use Rattle.groups.proofs.Sign.{formed-groups}
 use Rattle.groups.proofs.Store.{length-written}
 use Rattle.decimal.specs.Write.{isWell, writeBin, binLeaves}
 use Rattle.decimal.specs.Text.{printed, printTold, printLeaves}
@@ -32,7 +33,7 @@ use Rattle.surface.specs.Decimals.{decimalNumbers, decimalTold, held, wr
 -- ---- a decimal that is answered
 numbers-whole : (d : Decimal) → isWell d ≡ true → recordNumbers d ≡ decimalNumbers d
 numbers-whole d w =
-    let h = well-digits (d .intg) (d .frac) (d .groups) w in
+    let h = well-digits (d .intg) (d .frac) (d .groups) (formed-groups (d .sign) (d .intg) (d .frac) (d .groups) w) in
     ap (λ (n : ℕ). n ∷ low (d .frac) ∷ cond (d .sign) 1 0 ∷ d .groups) (low-small (d .intg) (omega arith))
     ∙ ap (λ (n : ℕ). d .intg ∷ n ∷ cond (d .sign) 1 0 ∷ d .groups) (low-small (d .frac) (omega arith))
 
@@ -86,7 +87,7 @@ held-by xs none f e = go (ltb (length xs) 12)
     go false = refl
 
 no-digits : isWell noDigits ≡ false
-unfolding wellFormed digitsOk
+unfolding wellFormed wellGroups digitsOk
 no-digits = refl
 
 -- d is the decimal as the callee gives it

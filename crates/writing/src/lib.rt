@@ -7,10 +7,10 @@ ghost use mathlib.Core.List.{_++_};
 ghost use Prim.Native.Nat.{_+_, _-_, _*_, _/_, _^_, _<_, _≤_};
 ghost use lib.ListN.{length, getD, drop};
 ghost use Rattle.groups.specs.Numbers.{digits};
-ghost use Rattle.groups.specs.Layout.{size, formOf, Plain};
+ghost use Rattle.groups.specs.Layout.{size, Plain};
 ghost use Rattle.groups.specs.Sides.{sidesOf};
 ghost use Rattle.groups.specs.Packed.{flip, flipFirst};
-ghost use Rattle.groups.specs.Write.{told, wellFormed, digitsTo, writeTold, writeLeaves};
+ghost use Rattle.groups.specs.Write.{told, wellGroups, digitsTo, writeTold, writeLeaves};
 ghost use Rattle.groups.specs.Course.{run};
 ghost use Rattle.writing.specs.Course.{laidAt, shade, shaded};
 
@@ -105,7 +105,7 @@ fn unscaled(g: u32, d: usize) -> u32
 
 // Writes all groups: the integral rest, the whole groups of both sides, the rest of the fraction.
 fn put_packed(out: &mut [u8], inverted: bool, intg: usize, frac: usize, s: Sides, gs: &[u32; 9])
-    requires { ⌜ (s ≡ sidesOf intg frac) × ((wellFormed intg frac (now gs) ≡ true) × (size intg frac ≤ length (now out))) ⌝ }
+    requires { ⌜ (s ≡ sidesOf intg frac) × ((wellGroups intg frac (now gs) ≡ true) × (size intg frac ≤ length (now out))) ⌝ }
     ensures { λ _. ⌜ now (out .exit) ≡ shaded inverted (digitsTo Plain intg frac (now (gs .entry)) 9) ++ drop (size intg frac) (now (out .entry)) ⌝ }
 {
     let last = s.last;
@@ -128,12 +128,12 @@ fn flip_first(out: &mut [u8])
     out[0] = flipped(out[0]);
 }
 
-// Writes the groups of a decimal, inverted or not, to the front of the output, and counts the bytes. A refusal changes nothing.
-pub fn write(out: &mut [u8], inverted: bool, intg: usize, frac: usize, gs: [u32; 9]) -> Counted
-    ensures { λ r. ⌜ told r ≡ writeTold (formOf inverted) intg frac gs (now (out .entry)) ⌝ }
-    ensures { λ _. ⌜ now (out .exit) ≡ writeLeaves (formOf inverted) intg frac gs (now (out .entry)) ⌝ }
+// Writes the groups of a decimal, inverted where it is negative, to the front of the output, and counts the bytes. A refusal changes nothing.
+pub fn write(out: &mut [u8], negative: bool, intg: usize, frac: usize, gs: [u32; 9]) -> Counted
+    ensures { λ r. ⌜ told r ≡ writeTold negative intg frac gs (now (out .entry)) ⌝ }
+    ensures { λ _. ⌜ now (out .exit) ≡ writeLeaves negative intg frac gs (now (out .entry)) ⌝ }
 {
-    if !formed::well_formed(intg, frac, &gs) {
+    if !formed::well_formed(negative, intg, frac, &gs) {
         return Counted::Refused(refusal::RECORD);
     }
     let s = groups::sides_of(intg, frac);
@@ -141,7 +141,7 @@ pub fn write(out: &mut [u8], inverted: bool, intg: usize, frac: usize, gs: [u32;
     if out.len() < n {
         return Counted::Refused(refusal::ROOM);
     }
-    put_packed(out, inverted, intg, frac, s, &gs);
+    put_packed(out, negative, intg, frac, s, &gs);
     flip_first(out);
     Counted::Bytes(n)
 }

@@ -8,14 +8,15 @@ use borrow.Author.Tests.{not-true, not-false}
 use Rattle.groups.specs.Write.{wellFormed}
 use Rattle.groups.proofs.Accept.{well-digits}
 use Rattle.groups.proofs.Base.{well-below}
+use Rattle.groups.proofs.Sign.{formed-groups, formed-sign}
 use Rattle.order.specs.Value.{told, compareTold}
 use Rattle.order.proofs.compare.Statement.{statement}
 use Rattle.order.proofs.compare.Tie as tie
 
-well-a : (c : tie.Else1) → let a = c .before .before .before .args in wellFormed (a .ia) (a .fa) (a .t4) ≡ true
+well-a : (c : tie.Else1) → let a = c .before .before .before .args in wellFormed (a .na) (a .ia) (a .fa) (a .t4) ≡ true
 well-a c = sym (c .before .well-formed .ensures) ∙ not-false (c .before .well-formed .result) (c .if1 .left)
 
-well-b : (c : tie.Else2) → let a = c .before .before .before .before .before .before .args in wellFormed (a .ib) (a .fb) (a .t8) ≡ true
+well-b : (c : tie.Else2) → let a = c .before .before .before .before .before .before .args in wellFormed (a .nb) (a .ib) (a .fb) (a .t8) ≡ true
 well-b c = sym (c .before .well-formed2 .ensures) ∙ not-false (c .before .well-formed2 .result) (c .if2 .left)
 
 well-formed-requires : tie.Need-well-formed-requires
@@ -37,9 +38,13 @@ compare-values-requires c κs =
     let d = c .before .before in
     let a = well-a (d .before .before .before) in
     let b = well-b d in
-    let h = well-digits _ _ _ a in
-    let k = well-digits _ _ _ b in
-    (omega arith, ((search needs, well-below _ _ _ (search needs) a), (search needs, well-below _ _ _ (search needs) b)))
+    let p = formed-groups _ _ _ _ a in
+    let q = formed-groups _ _ _ _ b in
+    let h = well-digits _ _ _ p in
+    let k = well-digits _ _ _ q in (
+      omega arith,
+      (((search needs, well-below _ _ _ (search needs) p), (search needs, well-below _ _ _ (search needs) q)), (formed-sign _ _ _ _ a, formed-sign _ _ _ _ b)),
+    )
 
 returns-3 : tie.Need-returns-3
 unfolding compareTold

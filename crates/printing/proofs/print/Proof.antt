@@ -4,12 +4,13 @@ use mathlib.Core.Path.{_≡_, sym, _∙_}
 use mathlib.Core.Bool.{true}
 use borrow.Author.Tests.{not-true, not-false}
 use Rattle.groups.specs.Write.{wellFormed}
+use Rattle.groups.proofs.Sign.{formed-groups}
 use Rattle.printing.specs.Print.{printTold, printLeaves}
 use borrow.Author.Needs.{needs}
 use Rattle.printing.proofs.print.Statement.{statement}
 use Rattle.printing.proofs.print.Tie as tie
 
-well : (c : tie.Else1) → let a = c .before .before .before .before .args in wellFormed (a .intg) (a .frac) (a .t5) ≡ true
+well : (c : tie.Else1) → let a = c .before .before .before .before .args in wellFormed (a .sign) (a .intg) (a .frac) (a .t5) ≡ true
 well c = sym (c .before .well-formed .ensures) ∙ not-false (c .before .well-formed .result) (c .if1 .left)
 
 well-formed-requires : tie.Need-well-formed-requires
@@ -22,7 +23,7 @@ returns c =
     (sym (simp e), sym (simp e))
 
 print-well-requires : tie.Need-print-well-requires
-print-well-requires c κs = (well (c .before .before), search needs)
+print-well-requires c κs = (formed-groups _ _ _ _ (well (c .before .before)), search needs)
 
 same-length : tie.Need-same-length
 same-length c = search needs

@@ -3,18 +3,12 @@
 use denote.Ref.{now}
 use mathlib.Core.Path.{sym, _∙_, ap}
 use Rattle.numeral.specs.declared.Parsed.{Parsed}
-use Rattle.order.specs.Value.{belowZero}
-use Rattle.decimal.specs.declared.Decimal.{Decimal}
-use Rattle.decimal.specs.Read.{refused, accepted}
+use Rattle.decimal.specs.Read.{decimalOf, refused, accepted}
 use Rattle.decimal.specs.Text.{ofDigits}
 use Rattle.decimal.proofs.Texts.{text-refused, text-read}
 use borrow.Author.Needs.{needs}
 use Rattle.decimal.proofs.Decimal.parse_str_bytes.Statement.{statement}
 use Rattle.decimal.proofs.Decimal.parse_str_bytes.Tie as tie
-
--- the decimal of what was read
-abbrev made : Parsed → Decimal
-made t = record { intg = t .intg; frac = t .frac; sign = belowZero (t .negative) (t .groups); groups = t .groups }
 
 read-requires : tie.Need-read-requires
 read-requires c κs = search needs
@@ -29,8 +23,8 @@ returns c =
     let e = ap (λ (x : Parsed). x .refusal) (t .read .ensures) in
     c .refuse .ensures ∙ ap refused e ∙ sym (text-refused bs (rw e at (c .before .if1 .taken)))
 
-of-groups-requires : tie.Need-of-groups-requires
-of-groups-requires c κs = search needs
+decimal-of-requires : tie.Need-decimal-of-requires
+decimal-of-requires c κs = search needs
 
 returns-2 : tie.Need-returns-2
 unfolding ofDigits
@@ -38,8 +32,8 @@ returns-2 c =
     let t = c .before .before .before .before in
     let bs = now (t .before .before .args .text) in
     let e = t .read .ensures in
-    ap accepted (c .of-groups .ensures ∙ ap made e) ∙ sym (text-read bs (rw (ap (λ (x : Parsed). x .refusal) e) at (c .before .before .if1 .left)))
+    ap accepted (c .decimal-of .ensures ∙ ap (λ (x : Parsed). decimalOf (x .intg) (x .frac) (x .negative) (x .groups)) e) ∙ sym (text-read bs (rw (ap (λ (x : Parsed). x .refusal) e) at (c .before .before .if1 .left)))
 
 pub parse-str-bytes-spec : {M : Type 1} → statement M
 parse-str-bytes-spec =
-    tie.close (tie.spec read-requires refuse-requires returns of-groups-requires returns-2)
+    tie.close (tie.spec read-requires refuse-requires returns decimal-of-requires returns-2)

@@ -1,16 +1,16 @@
--- No digit is left exactly if there is none on either side.
+-- The sign is that of the value, so that a zero is positive; the rest is handed over.
 -- Assumes nothing.
-use mathlib.Core.Logic.{⊎-elim}
-use borrow.Author.Tests.{eqb-true, eqb-false}
-use Rattle.decimal.proofs.Cases.{no-digit, digit-before, digit-after}
+use Rattle.decimal.specs.Read.{decimalOf}
+use borrow.Author.Needs.{needs}
 use Rattle.decimal.proofs.reader.decimal_of.Statement.{statement}
 use Rattle.decimal.proofs.reader.decimal_of.Tie as tie
 
-returns : tie.Need-returns
-returns c = no-digit _ _ _ _ (c .before .if1 .taken) (eqb-true _ _ (c .if2 .taken))
+below-zero-requires : tie.Need-below-zero-requires
+below-zero-requires c κs = search needs
 
-returns-2 : tie.Need-returns-2
-returns-2 c = ⊎-elim (λ t. digit-after _ _ _ _ (eqb-false _ _ (t .1 .left))) (λ t. digit-before _ _ _ _ (t .left)) (c .if1 .came)
+returns : tie.Need-returns
+unfolding decimalOf
+returns c = simp (c .below-zero .ensures)
 
 pub decimal-of-spec : {M : Type 1} → statement M
-decimal-of-spec = tie.close (tie.spec returns returns-2)
+decimal-of-spec = tie.close (tie.spec below-zero-requires returns)
