@@ -1,5 +1,4 @@
--- Every decimal that is answered is well formed: its groups were read in range, without whole integral groups the others keep their digits, 0 fits,
--- and the sign is that of the value.
+-- Every decimal that is answered is well formed: its groups were read in range, dropped groups are whole and zero, and its sign is that of its value.
 -- Assumes nothing.
 use mathlib.Core.Path.{_≡_, refl, sym, ap, _∙_}
 use mathlib.Core.Bool.{Bool, true, false, cond}
@@ -14,7 +13,7 @@ use Rattle.groups.specs.Numbers.{tab, leadingIn, Below}
 use Rattle.groups.specs.Layout.{groupsOf, side, formOf, baseOf, digitsAt, sizeIn, Form, Digits}
 use Rattle.groups.specs.Packed.{digitsIn}
 use Rattle.groups.specs.Read.{unitOf, rangeAt, storedAt, readGroups}
-use Rattle.groups.specs.Sign.{belowZero, signedNought}
+use Rattle.groups.specs.Sign.{signedNought}
 use Rattle.groups.specs.Write.{digitsOk, wellAt, wellGroups, wellFormed}
 use Rattle.groups.proofs.Accept.{both-true, in-range}
 use Rattle.groups.proofs.Marks.{length-in}

@@ -1,9 +1,8 @@
--- A zero that is answered is positive, since it is well formed; and bytes of a negative zero are read as those of the positive zero of the same
--- precision and scale, with kept precision or without: their groups are the same, and of zero groups the sign does not matter.
+-- A zero that is answered is well formed, so it is positive; and of zero groups a minus changes nothing, so both zeros are read alike.
 -- Assumes nothing.
 use mathlib.Core.Path.{_≡_, refl, sym, ap, _∙_, subst}
 use mathlib.Core.Bool.{Bool, true, false, cond}
-use mathlib.Core.List.{List, [], _∷_, _++_, append-nil}
+use mathlib.Core.List.{List, [], _∷_, append-nil}
 use Prim.Native.Nat.{ℕ, zero, suc, _+_, _-_, _*_, _≤_}
 use native.Mathlib.Nat.{le-of-eq}
 use native.Mathlib.Omega.{arith}

@@ -1,5 +1,4 @@
--- Reading then writing gives back the digit bytes read, but for a negative zero, whose bytes come back as the positive zero's; writing then
--- reading gives back a well formed decimal. Both with kept precision.
+-- Reading then writing gives back the digit bytes, but for a negative zero; writing then reading, a well formed decimal. Both with kept precision.
 -- Assumes nothing.
 use mathlib.Core.Path.{_≡_, refl, sym, ap, _∙_}
 use mathlib.Core.Bool.{Bool, true, false, cond}

@@ -1,28 +1,27 @@
--- Zero groups are written as 80 00 .. 00, inverted they would be 7F FF .. FF, and no other groups are written so. So the bytes of groups that are
--- read with a minus come back as those of the decimal, whose sign is that of its value.
+-- Groups that are all zero are written 80 00 .. 00, and with a minus would be 7F FF .. FF; no other well formed groups would be written so.
 -- Assumes nothing.
-use mathlib.Core.Path.{_≡_, refl, sym, ap, _∙_, subst}
+use mathlib.Core.Path.{_≡_, refl, sym, ap, _∙_}
 use mathlib.Core.Bool.{Bool, true, false, cond, not}
-use mathlib.Core.List.{List, [], _∷_, _++_, map}
+use mathlib.Core.List.{List, [], _∷_, map}
 use Prim.Native.Nat.{ℕ, zero, suc, _+_, _-_, _≤_, _<_}
 use native.Mathlib.Nat.{zero-div, zero-mod, zero-mul, le-trans, le-suc, le-refl, le-of-suc-le-suc, not-suc-le-zero}
 use native.Mathlib.Numerals.{add-one}
 use native.Mathlib.Omega.{arith}
-use lib.Dec.{T, eqb, ltb, lit<, eqb→eq}
-use lib.ListN.{length, getD, take, drop, replicate, length-map, length-replicate, getD-replicate, replicate-append-replicate, List·getD-map, List·getD-eq-default}
-use lib.Seq.{getD-take, getD-drop}
+use lib.Dec.{eqb, ltb, lit<}
+use lib.ListN.{length, getD, take, drop, replicate, length-map, length-replicate, getD-replicate, replicate-append-replicate, List·getD-eq-default}
+use lib.Seq.{getD-drop}
 use borrow.Author.Tests.{eq-eqb, ne-eqb, eqb-true, lt-ltb, ltb-true, ltb-false}
-use Rattle.groups.specs.Numbers.{number, digits, both, all, Below}
-use Rattle.groups.specs.Layout.{formOf, wideOf, baseOf, digitsAt, offset, sizeIn, size, Form}
+use Rattle.groups.specs.Numbers.{digits, both, all, Below}
+use Rattle.groups.specs.Layout.{formOf, wideOf, baseOf, digitsAt, offset, sizeIn, Form}
 use Rattle.groups.specs.Packed.{flip, flipFirst, invert, bytesOf}
 use Rattle.groups.specs.Read.{groupAt, storedAt}
 use Rattle.groups.specs.Sign.{isNought, belowZero}
 use Rattle.groups.specs.Write.{groupDigits, digitsTo, wellGroups, written}
-use Rattle.groups.proofs.Accept.{both-true, is-false, well-digits}
+use Rattle.groups.proofs.Accept.{both-true, well-digits}
 use Rattle.groups.proofs.Caps.{same-test}
 use Rattle.groups.proofs.Sign.{nought-of, nought-each}
 use Rattle.groups.proofs.Sizes.{packed-size, size-pos}
-use Rattle.groups.proofs.Store.{length-to, length-written, to-below}
+use Rattle.groups.proofs.Store.{length-written, to-below}
 use Rattle.groups.proofs.Tab.{all-true, all-each}
 use Rattle.order.proofs.Lex.{all-zero}
 use Rattle.decimal_laws.specs.Zero.{isNegativeZero, positiveZero, comesBack}

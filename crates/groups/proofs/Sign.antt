@@ -1,4 +1,4 @@
--- What a well formed record is: its groups are well formed, and its sign is that of a value below zero. Said once, for all who test a record or make one.
+-- A well formed record has well formed groups, and is negative only where its value is below zero: taken apart and put together here, once.
 -- Assumes nothing.
 use mathlib.Core.Path.{_≡_, refl, sym, subst}
 use mathlib.Core.Bool.{Bool, true, false, not}

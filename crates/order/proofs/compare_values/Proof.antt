@@ -1,7 +1,7 @@
 -- Signs decide where they differ, since none stands on a zero; of two negative values the larger magnitude is the less.
 -- Assumes what the contract requires, and nothing else.
 use Prim.Native.Nat.{ℕ}
-use mathlib.Core.Path.{_≡_, sym, _∙_}
+use mathlib.Core.Path.{sym, _∙_}
 use denote.Ref.{now}
 use borrow.Author.Needs.{needs}
 use Rattle.groups.specs.Layout.{groupsOf}
