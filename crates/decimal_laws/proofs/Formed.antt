@@ -1,4 +1,4 @@
--- Every decimal that is answered is well formed: its groups were read in range, dropped groups are whole and zero, and its sign is that of its value.
+-- Every decimal that is answered is well formed: its groups were read in range, those that are left keep their digits, and its sign is that of its value.
 -- Assumes nothing.
 use mathlib.Core.Path.{_≡_, refl, sym, ap, _∙_}
 use mathlib.Core.Bool.{Bool, true, false, cond}
