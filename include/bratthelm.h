@@ -30,8 +30,9 @@
  *   a key, 3 numbers: 1, start, length; or 0 0 0 for nothing
  *   a count, an order, a number of bytes or of characters, 1 number
  *   how a walk ended, 2 numbers: the count of events, and the place of the fault, which is 0 where there is none
- *   a decimal, 12 numbers: digits before the point, digits after it, sign (0, else 1 for a minus), and nine groups: the digits, cut in nines from the
- *     point outwards, left to right; the last group of a fraction is filled with zeros to nine digits, unused groups are 0, and a zero has the sign 0.
+ *   a decimal, 12 numbers: how many digits stand before the point and after it, sign (0, or 1 for a minus; handed in, any other number is a minus too), and
+ *     nine groups: the digits, cut in nines from the point outwards, left to right; the last group of a fraction is filled with zeros to nine digits, unused
+ *     groups are 0, and so is the sign of a zero. Numbers that you hand in and that are not so are refused by 26.
  *     1234567890.5 is 10 1 0 1 234567890 500000000 0 0 0 0 0 0
  *
  * Starts count from the document's first byte. A container is asked by four numbers of its row: type code, start, size and count.
@@ -99,7 +100,7 @@ enum bratthelm_refusal {
     BRATTHELM_ERR_TEXT = 23,    /* not decimal text */
     BRATTHELM_ERR_DIGITS = 24,  /* over 65 digits, or over 30 after the point */
     BRATTHELM_ERR_ROOM = 25,    /* what is lent is shorter than the result */
-    BRATTHELM_ERR_RECORD = 26   /* the numbers are no decimal */
+    BRATTHELM_ERR_RECORD = 26   /* the numbers are no decimal: fewer than twelve, or not as 'a decimal' above, as a sign on zero */
 };
 
 /* The first number of a value's row. */
@@ -152,7 +153,8 @@ uint32_t bratthelm_element_count(const uint8_t *doc, size_t doc_len, uint32_t co
 uint32_t bratthelm_walk(const uint8_t *doc, size_t doc_len, uint32_t *events, size_t events_len, uint32_t *answer, size_t answer_len);
 
 /* The decimal in the digit bytes at the front, of a precision and a scale, a row of a decimal: 20, 21, 22. With keep other than 0 it keeps its
- * precision, so that bratthelm_decimal_write_bin gives the bytes back (of a precision of 1 or more); to show it, read it with 0. */
+ * precision, so that bratthelm_decimal_write_bin gives the bytes back (of a precision of 1 or more), except for a negative zero: a zero is positive, so 7F FF of
+ * (2,1) comes back as 80 00. To show it, read it with 0. */
 uint32_t bratthelm_decimal_read_bin(const uint8_t *bytes, size_t bytes_len, uint32_t precision, uint32_t scale, uint32_t keep, uint32_t *answer,
                                     size_t answer_len);
 

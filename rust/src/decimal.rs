@@ -28,7 +28,8 @@ fn narrow(n: usize) -> u32 {
 impl Decimal {
     /// The decimal in the digit bytes at the front, as in a row event: 20, 21, 22. Later bytes are not read.
     ///
-    /// With `keep_precision` it has the digits of the precision, so that [`Decimal::write_bin`] gives the bytes back (of a precision of 1 or more); to show it, read it with `false`.
+    /// With `keep_precision` it has the digits of the precision, so that [`Decimal::write_bin`] gives the bytes back (of a precision of 1 or more), except for a negative zero: a zero is
+    /// positive, so `7F FF` of (2,1) comes back as `80 00`. To show it, read it with `false`.
     pub fn read_bin(bytes: &[u8], precision: usize, scale: usize, keep_precision: bool) -> Result<Decimal, Refusal> {
         let mut numbers = [0; NUMBERS];
         answered(calls::decimal_read_bin(bytes, narrow(precision), narrow(scale), keep_precision.into(), &mut numbers))?;
@@ -49,14 +50,15 @@ impl Decimal {
         Ok(Decimal { numbers })
     }
 
-    /// The decimal of twelve numbers, as [`Decimal::numbers`] gives them: 26, also for a sign on zero.
-    pub fn from_numbers(numbers: [u32; NUMBERS]) -> Result<Decimal, Refusal> {
+    /// The decimal of twelve numbers, as [`Decimal::numbers`] gives them: 26, also for a sign on zero. Any sign but 0 is a minus.
+    pub fn from_numbers(mut numbers: [u32; NUMBERS]) -> Result<Decimal, Refusal> {
         // Whatever can be compared, with itself too, is a decimal.
         answered(calls::decimal_compare(&numbers, &numbers, &mut [0]))?;
+        numbers[2] = (numbers[2] != 0).into();
         Ok(Decimal { numbers })
     }
 
-    /// Digits before the point, digits after it, sign (0, else 1 for a minus; 0 where all groups are) and nine groups of digits, cut in nines from the
+    /// How many digits stand before the point and after it, sign (0, or 1 for a minus; 0 where all groups are) and nine groups of digits, cut in nines from the
     /// point outwards.
     pub fn numbers(&self) -> [u32; NUMBERS] {
         self.numbers

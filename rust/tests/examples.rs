@@ -290,6 +290,7 @@ fn a_zero_is_positive() {
     }
     assert_eq!(Decimal::from_numbers([1, 1, 1, 0, 0, 0, 0, 0, 0, 0, 0, 0]).unwrap_err(), Refusal::Record);
     assert_eq!(Decimal::from_numbers([1, 1, 1, 0, 100_000_000, 0, 0, 0, 0, 0, 0, 0]).unwrap().to_string(), "-0.1");
+    assert_eq!(Decimal::from_numbers([1, 0, 7, 5, 0, 0, 0, 0, 0, 0, 0, 0]).unwrap().numbers()[2], 1);
 }
 
 #[test]
