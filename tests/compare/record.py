@@ -2,8 +2,9 @@
 """record.py SEED COUNT --source SRC [--out FOLDER]: a list of requests with the answers that are right, for replay.
 
 It writes FOLDER/stdin and FOLDER/stdout (FOLDER is crates/answers unless another is named). The values are as the original gives
-them; the numbers and places of refusals, which the original does not have, are as the second reader gives them. A request on which
-the two disagree, where no rule in rules.py intends it, is printed and not written; the exit status is then 1.
+them; where a rule in rules.py intends another answer they are as the second reader gives them, and so are the numbers and places of
+refusals, which the original does not have. A request on which the two disagree, and no rule intends it, is printed and not written;
+the exit status is then 1.
 """
 
 import argparse

@@ -14,7 +14,7 @@ use Rattle.kept.specs.Kept.{withoutLeading}
 use Rattle.decimal.specs.declared.Decimal.{Decimal}
 use Rattle.decimal.specs.declared.Answer.{Answer}
 
--- the first bit is set where the bytes are not those of a negative value
+-- the first bit is clear where the bytes were inverted: those of a negative value, and of a negative zero
 unfoldable pub negative : List ℕ → Bool
 negative [] = false
 negative (b ∷ bs) = ltb b 128

@@ -40,7 +40,7 @@ impl Decimal {
         groups::size(self.intg + self.frac, self.frac)
     }
 
-    // The decimal in the digit bytes at the front.
+    // The decimal in the digit bytes at the front; a zero is positive, whatever they say.
     pub fn read_bin(bytes: &[u8], precision: usize, scale: usize, keep: bool) -> Answer
         ensures { λ r. ⌜ r ≡ readBin (now (bytes .entry)) precision scale keep ⌝ }
     {
@@ -77,7 +77,7 @@ impl Decimal {
         writing::write(out, self.sign, self.intg, self.frac, gs)
     }
 
-    // The decimal that the text writes.
+    // The decimal that the text writes; a zero is positive.
     pub fn parse_str_bytes(text: &[u8]) -> Answer
         ensures { λ r. ⌜ r ≡ parseText (now (text .entry)) ⌝ }
     {

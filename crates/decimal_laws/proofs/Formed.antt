@@ -10,7 +10,7 @@ use lib.Dec.{ltb, eqb, lit<}
 use lib.ListN.{length, getD, drop, length-append, length-map, List·getD-eq-default}
 use borrow.Author.Tests.{ltb-true, ltb-false, lt-ltb, le-ltb, leb-true, eqb-true, eqb-false}
 use Rattle.groups.specs.Numbers.{tab, leadingIn, Below}
-use Rattle.groups.specs.Layout.{groupsOf, side, formOf, baseOf, digitsAt, sizeIn, Form, Digits}
+use Rattle.groups.specs.Layout.{groupsOf, side, baseOf, digitsAt, sizeIn, Digits}
 use Rattle.groups.specs.Packed.{digitsIn}
 use Rattle.groups.specs.Read.{unitOf, rangeAt, storedAt, readGroups}
 use Rattle.groups.specs.Sign.{signedNought}
@@ -34,7 +34,7 @@ use Rattle.order.proofs.Lex.{pow-pos-of}
 use Rattle.decimal_laws.proofs.Bytes.{digits-below}
 use Rattle.decimal_laws.proofs.Kept.{leading-le, whole-groups, answered}
 use Rattle.decimal_laws.proofs.Weights.{rounded}
-use Rattle.decimal_laws.proofs.RoundTrip.{packed-base, well-of, well-read}
+use Rattle.decimal_laws.proofs.RoundTrip.{packed-base, well-of, well-read, formAt, groupsAt}
 
 -- ---- a group of 0 is well formed at every place, and so is nought
 pub zero-well : (i f k : ℕ) → wellAt i f k 0 ≡ true
@@ -145,12 +145,6 @@ module _ (i f : ℕ) (gs : List ℕ) (n : length gs ≡ 9) where
         (λ z a b c. formed-of neg (left i z) f (later z gs) (later-formed z a b c))
 
 -- what is read of bytes is refused, or made of the groups in them
-abbrev formAt : List ℕ → Form
-formAt bs = formOf (negative bs)
-
-abbrev groupsAt : List ℕ → ℕ → ℕ → List ℕ
-groupsAt bs p s = tab 9 (storedAt (formAt bs) (p - s) s (digitsIn (formAt bs) bs))
-
 module _ (bs : List ℕ) (p s : ℕ) (keep : Bool) where
   read-holds : (P : Decimal → Type 0) → P nought
       → (readGroups (formAt bs) bs p s .refusal ≡ 0 → P (finished keep (p - s) s (negative bs) (groupsAt bs p s))) → P (readBin bs p s keep .decimal)

@@ -10,6 +10,7 @@ pub mod Reparsed
 pub mod Printed
 pub mod Formed
 pub mod Positive
+pub mod Refused
 pub mod Meaning
 pub mod Lengths
 pub mod Answers

@@ -1,33 +1,42 @@
 -- A zero that is answered is well formed, so it is positive; and of zero groups a minus changes nothing, so both zeros are read alike.
 -- Assumes nothing.
 use mathlib.Core.Path.{_≡_, refl, sym, ap, _∙_, subst}
-use mathlib.Core.Bool.{Bool, true, false, cond}
+use mathlib.Core.Bool.{Bool, true, false, cond, not}
 use mathlib.Core.List.{List, [], _∷_, append-nil}
-use Prim.Native.Nat.{ℕ, zero, suc, _+_, _-_, _*_, _≤_}
+use Prim.Native.Nat.{ℕ, zero, suc, _+_, _-_, _*_, _≤_, _<_}
 use native.Mathlib.Nat.{le-of-eq}
 use native.Mathlib.Omega.{arith}
 use lib.Dec.{T, eqb}
+use lib.IntN.{ℤ, pos}
+use lib.Signed.{ltZ}
 use lib.ListN.{length, getD, take, drop, replicate, length-replicate, getD-replicate, take-append-drop}
 use lib.Seq.{ext-getD, length-take-le}
-use borrow.Author.Tests.{eqb-true}
-use Rattle.groups.specs.Numbers.{all, tab, leadingIn, Below}
+use borrow.Author.Tests.{eqb-true, le-ltb}
+use Rattle.groups.specs.Numbers.{both, all, tab, leadingIn, Below}
 use Rattle.groups.specs.Layout.{groupsOf, formOf, size}
 use Rattle.groups.specs.Read.{inRange, zeros}
 use Rattle.groups.specs.Sign.{isNought, belowZero}
 use Rattle.groups.specs.Write.{wellGroups, written}
 use Rattle.groups.proofs.Accept.{both-true, in-range}
-use Rattle.groups.proofs.Sign.{nought-of, formed-zero}
+use Rattle.groups.proofs.Sign.{nought-of, formed-sign, formed-zero}
 use Rattle.groups.proofs.Sizes.{packed-size, size-pos}
 use Rattle.groups.proofs.Tab.{all-each, tab-at, zeros-at}
 use Rattle.kept.specs.Kept.{without}
 use Rattle.kept.specs.declared.Kept.{Kept}
-use Rattle.decimal.specs.Read.{decimalOf, orNought, finished, accepted, fromGroups, readBin, readPacked}
+use Rattle.order.specs.Value.{magnitude, signed}
+use Rattle.order.proofs.Values.{below-magnitude}
+use Rattle.decimal.specs.Read.{negative, decimalOf, orNought, finished, accepted, fromGroups, readBin, readPacked}
+use Rattle.decimal.specs.Write.{isWell}
+use Rattle.decimal.specs.Value.{value}
 use Rattle.decimal.specs.Text.{parseText}
+use Rattle.decimal.specs.declared.Decimal.{Decimal}
+use Rattle.decimal.specs.declared.Answer.{Answer}
 use Rattle.decimal_laws.specs.Zero.{isNegativeZero, positiveZero}
-use Rattle.decimal_laws.proofs.Formed.{zero-well, read-formed, packed-formed, parse-formed}
+use Rattle.decimal_laws.proofs.Formed.{zero-well, read-nine, read-formed, packed-formed, parse-formed}
+use Rattle.decimal_laws.proofs.Kept.{same-value, same-refusal}
 use Rattle.decimal_laws.proofs.Later.{later-bytes}
-use Rattle.decimal_laws.proofs.RoundTrip.{well-of, sign-back, groups-back}
-use Rattle.decimal_laws.proofs.Zero.{zeroBytes, zero-written}
+use Rattle.decimal_laws.proofs.RoundTrip.{kept, well-of, groupsAt, bytes-are, sign-back, groups-back}
+use Rattle.decimal_laws.proofs.Zero.{zeroBytes, zero-written, negative-zero}
 
 -- ---- a zero that is answered
 pub read-zero : (bs : List ℕ) (p s : ℕ) (keep : Bool) → Below 256 bs → isNought (readBin bs p s keep .decimal .groups) ≡ true → readBin bs p s keep .decimal .sign ≡ false
@@ -39,10 +48,48 @@ packed-zero bs keep h z = formed-zero _ _ _ _ (packed-formed bs keep h) z
 pub parse-zero : (bs : List ℕ) → isNought (parseText bs .decimal .groups) ≡ true → parseText bs .decimal .sign ≡ false
 parse-zero bs z = formed-zero _ _ _ _ (parse-formed bs) z
 
+-- ---- the sign is that of the value
+sign-is : (neg : Bool) (m : ℕ) → (neg ≡ true → 0 < m) → neg ≡ ltZ (signed neg m) (pos 0)
+sign-is true zero h = let l = h refl in absurd (omega arith)
+sign-is true (suc m) h = refl
+sign-is false m h = sym (le-ltb m 0 (omega arith))
+
+-- A well formed decimal has a sign exactly where its value is below zero.
+pub value-sign : (d : Decimal) → length (d .groups) ≡ 9 → isWell d ≡ true → d .sign ≡ ltZ (value d) (pos 0)
+unfolding value
+value-sign d n w =
+    sign-is (d .sign) (magnitude (groupsOf (d .intg)) (d .groups))
+    (λ s. below-magnitude (groupsOf (d .intg)) (d .groups) n (rw s at (formed-sign (d .sign) (d .intg) (d .frac) (d .groups) w)))
+
+-- With kept precision or without the sign is the same.
+pub same-sign : (bs : List ℕ) (p s : ℕ) → Below 256 bs → readBin bs p s false .decimal .sign ≡ readBin bs p s true .decimal .sign
+same-sign bs p s h =
+    value-sign (readBin bs p s false .decimal) (read-nine bs p s false) (read-formed bs p s false h)
+    ∙ ap (λ (v : ℤ). ltZ v (pos 0)) (same-value bs p s)
+    ∙ sym (value-sign (readBin bs p s true .decimal) (read-nine bs p s true) (read-formed bs p s true h))
+
+but-zero : (neg t : Bool) → both neg (not t) ≡ both neg (not (both neg t))
+but-zero true t = refl
+but-zero false t = refl
+
+kept-sign : (bs : List ℕ) (p s : ℕ) → Below 256 bs → 1 ≤ p → readBin bs p s true .refusal ≡ 0
+    → readBin bs p s true .decimal .sign ≡ both (negative bs) (not (isNegativeZero (take (size (p - s) s) bs)))
+unfolding decimalOf belowZero
+kept-sign bs p s h l e =
+    let g = bytes-are bs p s h l e in
+    let z = sym (ap isNegativeZero (g .1)) ∙ negative-zero (p - s) s (groupsAt bs p s) (g .0) (negative bs) in
+    ap (λ (a : Answer). a .decimal .sign) (kept bs p s l e) ∙ but-zero (negative bs) (isNought (groupsAt bs p s)) ∙ rw z
+
+-- What is read is negative where its bytes say so, except for a negative zero; with kept precision or without.
+pub read-sign : (bs : List ℕ) (p s : ℕ) (keep : Bool) → Below 256 bs → 1 ≤ p → readBin bs p s keep .refusal ≡ 0
+    → readBin bs p s keep .decimal .sign ≡ both (negative bs) (not (isNegativeZero (take (size (p - s) s) bs)))
+read-sign bs p s true h l e = kept-sign bs p s h l e
+read-sign bs p s false h l e = same-sign bs p s h ∙ kept-sign bs p s h l (sym (same-refusal bs p s) ∙ e)
+
 -- ---- of zero groups the sign does not matter
-same-sign : (i f : ℕ) (gs : List ℕ) → isNought gs ≡ true → orNought i f true gs ≡ orNought i f false gs
+of-zeros : (i f : ℕ) (gs : List ℕ) → isNought gs ≡ true → orNought i f true gs ≡ orNought i f false gs
 unfolding orNought decimalOf belowZero
-same-sign i f gs z = simp z
+of-zeros i f gs z = simp z
 
 none-left : (z : ℕ) → isNought (tab 9 (λ k. getD zeros (k + z) 0)) ≡ true
 none-left z = nought-of _ (λ k l. tab-at 9 (λ k. getD zeros (k + z) 0) k l ∙ zeros-at 9 (k + z))
@@ -53,7 +100,7 @@ zeros-nought = refl
 
 same-finished : (keep : Bool) (i f : ℕ) → finished keep i f true zeros ≡ finished keep i f false zeros
 unfolding finished without
-same-finished true i f = same-sign i f zeros zeros-nought
+same-finished true i f = of-zeros i f zeros zeros-nought
 same-finished false i f = go (eqb z 0)
   where
     z : ℕ
@@ -63,8 +110,8 @@ same-finished false i f = go (eqb z 0)
     kept t = cond t (record { intg = i; groups = zeros }) (record { intg = 9 * (groupsOf i - z); groups = tab 9 (λ k. getD zeros (k + z) 0) })
 
     go : (t : Bool) → orNought (kept t .intg) f true (kept t .groups) ≡ orNought (kept t .intg) f false (kept t .groups)
-    go true = same-sign i f zeros zeros-nought
-    go false = same-sign _ f _ (none-left z)
+    go true = of-zeros i f zeros zeros-nought
+    go false = of-zeros _ f _ (none-left z)
 
 -- ---- the bytes of a negative zero are no others
 only-zero : (bs : List ℕ) → isNegativeZero bs ≡ true → bs ≡ zeroBytes true (length bs - 1)

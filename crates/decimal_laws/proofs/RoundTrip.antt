@@ -69,16 +69,23 @@ pub groups-of : (g : Groups) (i f : ℕ) (neg keep : Bool) → fromGroups g i f 
 unfolding fromGroups
 groups-of g i f neg keep e = not-refused (g .refusal) (finished keep i f neg (g .groups)) e
 
+-- the form of bytes, and the groups in them
+abbrev pub formAt : List ℕ → Form
+formAt bs = formOf (negative bs)
+
+abbrev pub groupsAt : List ℕ → ℕ → ℕ → List ℕ
+groupsAt bs p s = tab 9 (storedAt (formAt bs) (p - s) s (digitsIn (formAt bs) bs))
+
 module _ (bs : List ℕ) (p s : ℕ) where
-  pub kept : 1 ≤ p → readBin bs p s true .refusal ≡ 0
-      → readBin bs p s true ≡ accepted (decimalOf (p - s) s (negative bs) (tab 9 (storedAt (formOf (negative bs)) (p - s) s (digitsIn (formOf (negative bs)) bs))))
+  pub kept : 1 ≤ p → readBin bs p s true .refusal ≡ 0 → readBin bs p s true ≡ accepted (decimalOf (p - s) s (negative bs) (groupsAt bs p s))
   unfolding readBin finished orNought
   kept l e =
-      let z = groups-of (readGroups (formOf (negative bs)) bs p s) (p - s) s (negative bs) true e in
-      let o = opened (formOf (negative bs)) bs p s z in
+      let g = readGroups (formAt bs) bs p s in
+      let z = groups-of g (p - s) s (negative bs) true e in
+      let o = opened (formAt bs) bs p s z in
       let r = in-range p s (o .0) in
       let n : eqb (p - s + s) 0 ≡ false = ne-eqb (p - s + s) 0 (λ (q : p - s + s ≡ 0). omega arith) in
-      groups-read (readGroups (formOf (negative bs)) bs p s) (p - s) s (negative bs) true z ∙ simp (n, reads (formOf (negative bs)) bs p s (o .0) (o .1 .0) (o .1 .1))
+      groups-read g (p - s) s (negative bs) true z ∙ simp (n, reads (formAt bs) bs p s (o .0) (o .1 .0) (o .1 .1))
 
 -- ---- the form of a sign
 pub packed-base : (neg : Bool) → baseOf (formOf neg) ≡ 256
@@ -89,29 +96,37 @@ pub well-of : (i f : ℕ) (gs : List ℕ) → 1 ≤ i + f → i + f ≤ 65 → f
 unfolding wellGroups digitsOk
 well-of i f gs a b c h = simp (le-leb _ _ a, le-leb _ _ b, le-leb _ _ c) (all-true (λ k. wellAt i f k (getD gs k 0)) 9 h)
 
--- ---- the laws
--- Reading then writing: what the digit bytes read come back as, and nothing else changes.
-pub read-write : (bs out : List ℕ) (p s : ℕ) → Below 256 bs → 1 ≤ p → readBin bs p s true .refusal ≡ 0 → size (p - s) s ≤ length out
-    → let d = readBin bs p s true .decimal in
-    (isWell d ≡ true) × ((writeBin d out ≡ answer (size (p - s) s ∷ [])) × (binLeaves d out ≡ comesBack (take (size (p - s) s) bs) ++ drop (size (p - s) s) out))
-unfolding readBin written decimalOf
-read-write bs out p s h l e n =
+-- the groups that are read from bytes are well formed, and written with the sign of the bytes they are these bytes
+pub bytes-are : (bs : List ℕ) (p s : ℕ) → Below 256 bs → 1 ≤ p → readBin bs p s true .refusal ≡ 0
+    → (wellGroups (p - s) s (groupsAt bs p s) ≡ true) × (written (formAt bs) (p - s) s (groupsAt bs p s) ≡ take (size (p - s) s) bs)
+unfolding readBin written
+bytes-are bs p s h l e =
     let neg = negative bs in
     let F = formOf neg in
     let ds = digitsIn F bs in
     let o = opened F bs p s (groups-of (readGroups F bs p s) (p - s) s neg true e) in
     let r = in-range p s (o .0) in
-    let q : p - s + s ≡ p = omega arith in
     let b : Below (baseOf F) ds = rw (packed-base neg) (digits-below neg bs h) in
     let m : sizeIn F (p - s) s ≤ length ds = rw (length-in F bs) (o .1 .0) in
-    let gs = tab 9 (storedAt F (p - s) s ds) in
+    let t : written F (p - s) s (groupsAt bs p s) ≡ take (sizeIn F (p - s) s) bs = rw (again F (p - s) s ds b m 9 (le-refl 9)) (read-bytes neg bs h (sizeIn F (p - s) s)) in (
+      well-of (p - s) s (groupsAt bs p s) (omega arith) (omega arith) (r .1 .0) (well-read F (p - s) s ds b m (all-each (rangeAt F (p - s) s ds) 9 (o .1 .1))),
+      rw (packed-size neg (p - s) s) at t,
+    )
+
+-- ---- the laws
+-- Reading then writing: what the digit bytes read come back as, and nothing else changes.
+pub read-write : (bs out : List ℕ) (p s : ℕ) → Below 256 bs → 1 ≤ p → readBin bs p s true .refusal ≡ 0 → size (p - s) s ≤ length out
+    → let d = readBin bs p s true .decimal in
+    (isWell d ≡ true) × ((writeBin d out ≡ answer (size (p - s) s ∷ [])) × (binLeaves d out ≡ comesBack (take (size (p - s) s) bs) ++ drop (size (p - s) s) out))
+unfolding decimalOf
+read-write bs out p s h l e n =
+    let neg = negative bs in
+    let gs = groupsAt bs p s in
     let v = belowZero neg gs in
-    let g : wellGroups (p - s) s gs ≡ true =
-    well-of (p - s) s gs (omega arith) (omega arith) (r .1 .0) (well-read F (p - s) s ds b m (all-each (rangeAt F (p - s) s ds) 9 (o .1 .1))) in
-    let w = formed-of neg (p - s) s gs g in
+    let g = bytes-are bs p s h l e in
+    let w = formed-of neg (p - s) s gs (g .0) in
     let y = writes v (p - s) s gs out w (rw (packed-size v (p - s) s) n) in
-    let t : written F (p - s) s gs ≡ take (sizeIn F (p - s) s) bs = rw (again F (p - s) s ds b m 9 (le-refl 9)) (read-bytes neg bs h (sizeIn F (p - s) s)) in
-    let u : written (formOf v) (p - s) s gs ≡ comesBack (take (size (p - s) s) bs) = sym (comes-back (p - s) s gs g neg) ∙ ap comesBack (rw (packed-size neg (p - s) s) at t) in
+    let u : written (formOf v) (p - s) s gs ≡ comesBack (take (size (p - s) s) bs) = sym (comes-back (p - s) s gs (g .0) neg) ∙ ap comesBack (g .1) in
     rw (kept bs p s l e) (w, (rw (packed-size v (p - s) s) at (y .0), rw (packed-size v (p - s) s) at (y .1 ∙ ap (λ (x : List ℕ). x ++ drop (sizeIn (formOf v) (p - s) s) out) u)))
 
 -- groups that were written, read again

@@ -1,4 +1,5 @@
-// Which records are decimals: digits within the limits, each group below the power of its digits, all others 0, and no sign on zero.
+// Which records are decimals: digits within the limits, each group below the power of its digits, the last of a fraction scaled, all others 0, and no sign
+// on zero; and the sign of a decimal that is read.
 ghost use mathlib.Core.Path.{_≡_};
 ghost use Prim.Native.Nat.{_+_, _≤_};
 ghost use lib.ListN.{getD};

@@ -1,4 +1,4 @@
--- The examples marked (P), as one statement over their table: the definitions answer each question as document 01 does. antt computes both sides.
+-- The examples marked (P), as one statement over their table: the definitions answer each question as the documents do. antt computes both sides.
 -- Assumes nothing.
 use mathlib.Core.Path.{_≡_, refl}
 use mathlib.Core.List.{map}

@@ -1,4 +1,4 @@
--- Document 01's examples that are marked (P): each row a question, and beside it what document 01 answers. A kind of question is a constructor
+-- Document 01's examples that are marked (P): each row a question, and beside it what document 01 answers, or document 02 where it puts 01 right. A kind of question is a constructor
 -- of `Row`, and `asked` says what the definitions answer to it: a thing, nothing, or the number of the refusal.
 -- Assumes nothing.
 use Prim.Native.Nat.{ℕ}

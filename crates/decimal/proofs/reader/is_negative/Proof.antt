@@ -1,4 +1,4 @@
--- The first bit of the first byte is clear where the value is negative, and no bytes are not negative.
+-- The first bit of the first byte is clear where the bytes were inverted, and no bytes were not.
 -- Assumes nothing.
 use mathlib.Core.Path.{sym}
 use denote.Ref.{now}
