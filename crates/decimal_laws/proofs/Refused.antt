@@ -4,7 +4,8 @@ use mathlib.Core.Path.{_≡_, refl}
 use mathlib.Core.Bool.{Bool, true, false}
 use Rattle.groups.specs.Numbers.{both}
 use Rattle.groups.specs.Sign.{isNought, signedNought}
-use Rattle.groups.specs.Write.{wellGroups, wellFormed, writeTold, writeLeaves}
+use Rattle.groups.specs.Write.{writeTold, writeLeaves}
+use Rattle.groups.proofs.Sign.{sign-wrong}
 use Rattle.decimal.specs.Write.{isWell, binSize}
 use Rattle.decimal.specs.Text.{printTold, printLeaves}
 use Rattle.decimal.specs.Value.{compareTold}
@@ -29,5 +30,5 @@ not-well d w =
     }
 
 pub sign-on-zero : (d : Decimal) → d .sign ≡ true → isNought (d .groups) ≡ true → NoDecimal d
-unfolding wellFormed signedNought
-sign-on-zero d s z = not-well d (rw (s, z) (both-no (wellGroups (d .intg) (d .frac) (d .groups))))
+unfolding signedNought
+sign-on-zero d s z = not-well d (sign-wrong (d .sign) (d .intg) (d .frac) (d .groups) (rw (s, z)))

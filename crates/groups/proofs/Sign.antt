@@ -10,7 +10,7 @@ use borrow.Author.Tests.{eq-eqb, eqb-true}
 use Rattle.groups.specs.Numbers.{both}
 use Rattle.groups.specs.Sign.{isNought, belowZero, signedNought}
 use Rattle.groups.specs.Write.{wellGroups, wellFormed}
-use Rattle.groups.proofs.Accept.{both-true}
+use Rattle.groups.proofs.Accept.{both-true, both-unit}
 use Rattle.groups.proofs.Tab.{all-true, all-each}
 
 -- ---- zero groups
@@ -38,6 +38,10 @@ below-unsigned true true = refl
 below-unsigned true false = refl
 below-unsigned false t = refl
 
+both-no : (t : Bool) → both t false ≡ false
+both-no true = refl
+both-no false = refl
+
 -- ---- a well formed record
 module _ (neg : Bool) (i f : ℕ) (gs : List ℕ) where
   pub formed-groups : wellFormed neg i f gs ≡ true → wellGroups i f gs ≡ true
@@ -58,3 +62,12 @@ module _ (neg : Bool) (i f : ℕ) (gs : List ℕ) where
   pub formed-of : wellGroups i f gs ≡ true → wellFormed (belowZero neg gs) i f gs ≡ true
   unfolding wellFormed belowZero signedNought
   formed-of w = simp w (below-unsigned neg (isNought gs))
+
+  -- the test of a record: first its sign, then its groups
+  pub sign-wrong : signedNought neg gs ≡ true → wellFormed neg i f gs ≡ false
+  unfolding wellFormed
+  sign-wrong e = simp e (both-no (wellGroups i f gs))
+
+  pub sign-right : signedNought neg gs ≡ false → wellFormed neg i f gs ≡ wellGroups i f gs
+  unfolding wellFormed
+  sign-right e = simp e (both-unit (wellGroups i f gs))
