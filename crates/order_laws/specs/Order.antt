@@ -1,0 +1,96 @@
+-- The order of decimals is an order (document 02, W8): statements about what `Decimal::compare` answers, and the last about what `Decimal::print` puts too.
+-- A caller has `Compares a b r` from the contract of a call `let r = a.compare(b)`, so each statement holds of the answers themselves. What is swapped,
+-- reversed or carried is said of every record, since a refusal stays one; a record's groups are nine, as those of every value of its type are.
+-- proofs/Order.antt proves each statement by its name.
+-- Assumes nothing.
+use Prim.Native.Nat.{ℕ}
+use mathlib.Core.Path.{_≡_}
+use mathlib.Core.Bool.{Bool, true, false, cond, not}
+use mathlib.Core.Logic.{_↔_}
+use mathlib.Core.List.{List}
+use lib.ListN.{length, take}
+use Rattle.groups.specs.Numbers.{both}
+use Rattle.groups.specs.Sign.{isNought}
+use Rattle.groups.specs.Write.{told as countTold}
+use Rattle.groups.specs.declared.Counted.the-variants.{Bytes}
+use Rattle.order.specs.Value.{told, orderZ}
+use Rattle.order.specs.declared.Compared.{Compared}
+use Rattle.order.specs.declared.Compared.the-variants.{Less, Equal, Greater, Refused}
+use Rattle.decimal.specs.Write.{isWell}
+use Rattle.decimal.specs.Text.{printTold, printLeaves}
+use Rattle.decimal.specs.Value.{value, compareTold}
+use Rattle.decimal.specs.declared.Decimal.{Decimal}
+use Rattle.order_laws.specs.Plain.{plain}
+
+-- ---- what the two functions answer
+-- r is an answer of `compare` to a and b: its contract
+abbrev pub Compares : Decimal → Decimal → Compared → Type 0
+Compares a b r = told r ≡ compareTold a b
+
+-- and what it answers, as a function of them (proofs/Order.antt: `the-answer`)
+unfoldable pub compared : Decimal → Decimal → Compared
+compared a b = cond (both (isWell a) (isWell b)) (orderZ (value a) (value b)) (Refused 26)
+
+-- `print` of d succeeds in an output `out` that is lent to it, and the characters that it counts are bs: its contract, `left` being the output afterwards
+pub record Prints (d : Decimal) (bs : List ℕ) : Type 0 where
+  pub out : List ℕ
+  pub left : List ℕ
+  pub count : ℕ
+  pub counts : countTold (Bytes count) ≡ printTold d out
+  pub leaves : left ≡ printLeaves d out
+  pub text : bs ≡ take count left
+
+-- ---- of one decimal
+-- a record that is a decimal
+pub record IsDecimal (d : Decimal) : Type 0 where
+  pub nine : length (d .groups) ≡ 9
+  pub well : isWell d ≡ true
+
+-- the decimal with its sign changed; a zero stays as it is, since with a sign it would be none
+unfoldable pub negated : Decimal → Decimal
+negated d = cond (isNought (d .groups)) d (record { intg = d .intg; frac = d .frac; sign = not (d .sign); groups = d .groups })
+
+-- ---- of one answer
+-- less and greater swapped
+abbrev pub reversed : Compared → Compared
+reversed Less = Greater
+reversed Equal = Equal
+reversed Greater = Less
+reversed (Refused n) = Refused n
+
+-- less or equal
+abbrev pub isLe : Compared → Bool
+isLe Less = true
+isLe Equal = true
+isLe Greater = false
+isLe (Refused n) = false
+
+-- one of three, and not another
+pub data ExactlyOne (P Q R : Type 0) : Type 0 where
+  first : P → (Q → ⊥) → (R → ⊥) → ExactlyOne P Q R
+  second : (P → ⊥) → Q → (R → ⊥) → ExactlyOne P Q R
+  third : (P → ⊥) → (Q → ⊥) → R → ExactlyOne P Q R
+
+-- ---- the statements
+-- Swapping the two swaps less and greater.
+abbrev pub Swaps : Type 0
+Swaps = (a b : Decimal) (r s : Compared) → Compares a b r → Compares b a s → s ≡ reversed r
+
+-- Less-or-equal carries through a third.
+abbrev pub Carries : Type 0
+Carries = (a b c : Decimal) (r s t : Compared) → Compares a b r → Compares b c s → Compares a c t → isLe r ≡ true → isLe s ≡ true → isLe t ≡ true
+
+-- Exactly one of less, equal and greater holds.
+abbrev pub OneHolds : Type 0
+OneHolds = (a b : Decimal) (r : Compared) → IsDecimal a → IsDecimal b → Compares a b r → ExactlyOne (r ≡ Less) (r ≡ Equal) (r ≡ Greater)
+
+-- Changing both signs reverses the answer.
+abbrev pub Reverses : Type 0
+Reverses =
+    (a b : Decimal) (r s : Compared) → length (a .groups) ≡ 9 → length (b .groups) ≡ 9 → Compares a b r → Compares (negated a) (negated b) s → s ≡ reversed r
+
+-- Equal exactly when both print the same after what does not tell the value is removed.
+abbrev pub EqualPrints : Type 0
+EqualPrints =
+    (a b : Decimal) (r : Compared) (xs ys : List ℕ) → length (a .groups) ≡ 9 → length (b .groups) ≡ 9 → Compares a b r → Prints a xs → Prints b ys
+    → (r ≡ Equal) ↔ (plain xs ≡ plain ys)
