@@ -17,9 +17,11 @@ told-of : (t : Bool) (r : Compared) → told (cond t r (Refused 26)) ≡ cond t 
 told-of true r = refl
 told-of false r = refl
 
-compared-told : (a b : Decimal) → Compares a b (compared a b)
+-- The contract allows this answer,
+pub compares : (a b : Decimal) → Compares a b (compared a b)
 unfolding compared compareTold
-compared-told a b = told-of (both (isWell a) (isWell b)) (orderZ (value a) (value b))
+compares a b = told-of (both (isWell a) (isWell b)) (orderZ (value a) (value b))
 
+-- and no other.
 pub the-answer : (a b : Decimal) (r : Compared) → Compares a b r → r ≡ compared a b
-the-answer a b r h = order-answer (compareTold a b) r (compared a b) h (compared-told a b)
+the-answer a b r h = order-answer (compareTold a b) r (compared a b) h (compares a b)

@@ -67,14 +67,19 @@ le-of false true h = refl
 le-of false false h = refl
 
 -- answers with different places are not the same
-abbrev place : Compared → ℕ
+abbrev pub place : Compared → ℕ
 place Less = 0
 place Equal = 1
 place Greater = 2
 place (Refused n) = 3
 
-apart : (r s : Compared) → place r < place s → r ≡ s → ⊥
+pub apart : (r s : Compared) → place r < place s → r ≡ s → ⊥
 apart r s l e = let q = ap place e in omega arith
+
+less-of : (s t : Bool) → answerOf s t ≡ Less → s ≡ true
+less-of true t e = refl
+less-of false true e = absurd (apart Less Greater (lit< tt) (sym e))
+less-of false false e = absurd (apart Less Equal (lit< tt) (sym e))
 
 equal-of : (s t : Bool) → answerOf s t ≡ Equal → (s ≡ false) × (t ≡ false)
 equal-of true t e = absurd (apart Less Equal (lit< tt) e)
@@ -95,6 +100,28 @@ carried x y z h k =
     let l = not-true (ltZ y x) (sym (le-is x y) ∙ h) in
     let m = not-true (ltZ z y) (sym (le-is y z) ∙ k) in
     le-is x z ∙ ap not (not-through x y z l m)
+
+not-less : (x y : ℤ) → orderZ x y ≡ Less → ltZ x y ≡ false → ⊥
+unfolding orderZ
+not-less x y h k = subst T (sym (less-of (ltZ x y) (ltZ y x) h) ∙ k) tt
+
+less-is : (x y : ℤ) → (ltZ x y ≡ false → ⊥) → orderZ x y ≡ Less
+unfolding orderZ
+less-is x y h = go (ltZ x y) h
+  where
+    go : (s : Bool) → (s ≡ false → ⊥) → answerOf s (ltZ y x) ≡ Less
+    go true h = refl
+    go false h = absurd (h refl)
+
+pub less-carried : (x y z : ℤ) → orderZ x y ≡ Less → isLe (orderZ y z) ≡ true → orderZ x z ≡ Less
+less-carried x y z h k =
+    let m = not-true (ltZ z y) (sym (le-is y z) ∙ k) in
+    less-is x z (λ (e : ltZ x z ≡ false). not-less x y h (not-through y z x m e))
+
+pub carried-less : (x y z : ℤ) → isLe (orderZ x y) ≡ true → orderZ y z ≡ Less → orderZ x z ≡ Less
+carried-less x y z h k =
+    let m = not-true (ltZ y x) (sym (le-is x y) ∙ h) in
+    less-is x z (λ (e : ltZ x z ≡ false). not-less y z k (not-through z x y e m))
 
 pub equal-same : (x y : ℤ) → orderZ x y ≡ Equal → x ≡ y
 unfolding orderZ

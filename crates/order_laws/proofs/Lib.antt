@@ -5,4 +5,5 @@ pub mod Ends
 pub mod Shown
 pub mod Row
 pub mod Equal
+pub mod Examples
 pub mod Order

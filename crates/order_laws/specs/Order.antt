@@ -94,3 +94,18 @@ abbrev pub EqualPrints : Type 0
 EqualPrints =
     (a b : Decimal) (r : Compared) (xs ys : List ℕ) → length (a .groups) ≡ 9 → length (b .groups) ≡ 9 → Compares a b r → Prints a xs → Prints b ys
     → (r ≡ Equal) ↔ (plain xs ≡ plain ys)
+
+-- ---- what follows, and a sort rests on
+-- A decimal equals itself.
+abbrev pub Itself : Type 0
+Itself = (a : Decimal) (r : Compared) → isWell a ≡ true → Compares a a r → r ≡ Equal
+
+-- Less carries through a third that is less or equal on the other side.
+abbrev pub LessCarries : Type 0
+LessCarries =
+    (a b c : Decimal) (r s t : Compared) → Compares a b r → Compares b c s → Compares a c t
+    → (r ≡ Less → isLe s ≡ true → t ≡ Less) × (isLe r ≡ true → s ≡ Less → t ≡ Less)
+
+-- Two that are equal compare alike with any third.
+abbrev pub EqualAlike : Type 0
+EqualAlike = (a b c : Decimal) (r s t : Compared) → Compares a b r → Compares a c s → Compares b c t → r ≡ Equal → s ≡ t
