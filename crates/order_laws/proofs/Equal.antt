@@ -21,10 +21,15 @@ use Rattle.decimal.specs.Value.{value}
 use Rattle.decimal.specs.declared.Decimal.{Decimal}
 use Rattle.decimal_laws.proofs.Positive.{value-sign}
 use Rattle.order_laws.specs.Plain.{withoutFront, withoutEnd, plain}
-use Rattle.order_laws.specs.Order.{Prints, IsDecimal}
+use Rattle.order_laws.specs.Order.{Prints}
 use Rattle.order_laws.proofs.Ends.{front-same, end-same}
 use Rattle.order_laws.proofs.Shown.{taken-apart}
 use Rattle.order_laws.proofs.Row.{frontOf, endOf, same-row, front-length, end-length, row-length, row-below, row-number, plain-printed}
+
+-- a record that is a decimal
+pub record IsDecimal (d : Decimal) : Type 0 where
+  pub nine : length (d .groups) ≡ 9
+  pub well : isWell d ≡ true
 
 -- ---- a sign and a magnitude are told by the value
 abs-signed : (neg : Bool) (m : ℕ) → natAbs (signed neg m) ≡ m

@@ -13,12 +13,12 @@ use Rattle.decimal.specs.Write.{isWell}
 use Rattle.decimal.specs.Text.{printed}
 use Rattle.decimal.specs.Value.{value}
 use Rattle.order_laws.specs.Plain.{plain}
-use Rattle.order_laws.specs.Order.{IsDecimal, compared, negated, reversed, isLe}
+use Rattle.order_laws.specs.Order.{compared, negated, reversed, isLe}
 use Rattle.order_laws.specs.Order.{Swaps, Carries, OneHolds, Reverses, EqualPrints, Itself, LessCarries, EqualAlike}
 use Rattle.order_laws.proofs.Integers.{place, apart, swapped, carried, less-carried, carried-less, one-of, signs-changed, equal-same, same-equal}
 use Rattle.order_laws.proofs.Compared.{the-answer}
 use Rattle.order_laws.proofs.Negated.{negated-well, negated-value}
-use Rattle.order_laws.proofs.Equal.{same-plain, plain-value, prints-text}
+use Rattle.order_laws.proofs.Equal.{IsDecimal, same-plain, plain-value, prints-text}
 
 -- ---- of three tests and three integers
 abbrev answered : Bool → Bool → ℤ → ℤ → Compared
@@ -75,7 +75,7 @@ carries a b c r s t h k l p q =
 
 pub one-holds : OneHolds
 unfolding compared
-one-holds a b r w v h = rw (the-answer a b r h, w .well, v .well) (one-of (value a) (value b))
+one-holds a b r w v h = rw (the-answer a b r h, w, v) (one-of (value a) (value b))
 
 pub reverses : Reverses
 unfolding compared

@@ -41,11 +41,6 @@ pub record Prints (d : Decimal) (bs : List ℕ) : Type 0 where
   pub text : bs ≡ take count left
 
 -- ---- of one decimal
--- a record that is a decimal
-pub record IsDecimal (d : Decimal) : Type 0 where
-  pub nine : length (d .groups) ≡ 9
-  pub well : isWell d ≡ true
-
 -- the decimal with its sign changed; a zero stays as it is, since with a sign it would be none
 unfoldable pub negated : Decimal → Decimal
 negated d = cond (isNought (d .groups)) d (record { intg = d .intg; frac = d .frac; sign = not (d .sign); groups = d .groups })
@@ -82,7 +77,7 @@ Carries = (a b c : Decimal) (r s t : Compared) → Compares a b r → Compares b
 
 -- Exactly one of less, equal and greater holds.
 abbrev pub OneHolds : Type 0
-OneHolds = (a b : Decimal) (r : Compared) → IsDecimal a → IsDecimal b → Compares a b r → ExactlyOne (r ≡ Less) (r ≡ Equal) (r ≡ Greater)
+OneHolds = (a b : Decimal) (r : Compared) → isWell a ≡ true → isWell b ≡ true → Compares a b r → ExactlyOne (r ≡ Less) (r ≡ Equal) (r ≡ Greater)
 
 -- Changing both signs reverses the answer.
 abbrev pub Reverses : Type 0

@@ -1,6 +1,6 @@
 -- Two answers of the comparison tell of three pairs: the third is the law `carries` of order_laws, so it need not be asked.
 -- Assumes nothing.
-use mathlib.Core.Path.{_≡_, refl, sym, ap, _∙_}
+use mathlib.Core.Path.{_≡_, refl}
 use mathlib.Core.Bool.{Bool, true, false}
 use Rattle.groups.specs.Numbers.{both}
 use Rattle.order.specs.declared.Compared.{Compared}
