@@ -172,7 +172,8 @@ uint32_t bratthelm_decimal_write_bin(const uint32_t *decimal, size_t decimal_len
 /* Prints a decimal to the front of `text`, without a 0 at the end, and answers how many characters it has: 26, then 25, as above. */
 uint32_t bratthelm_decimal_print(const uint32_t *decimal, size_t decimal_len, uint8_t *text, size_t text_len, uint32_t *answer, size_t answer_len);
 
-/* The order of two decimals by value, one number: 0 less, 1 equal, 2 greater; 26 where either is no decimal. */
+/* The order of two decimals by value, one number: 0 less, 1 equal, 2 greater; 26 where either is no decimal. It is an order, fit for qsort: swapped, 0 and 2
+ * change places, 0 or 1 carries through a third, and equal are those whose texts differ in needless zeros alone (crates/order_laws). */
 uint32_t bratthelm_decimal_compare(const uint32_t *left, size_t left_len, const uint32_t *right, size_t right_len, uint32_t *answer,
                                    size_t answer_len);
 

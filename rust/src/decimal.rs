@@ -83,7 +83,8 @@ impl Decimal {
         Ok(count[0] as usize)
     }
 
-    /// The order by value: 1 is 1.0, and 9 is less than 100.
+    /// The order by value: 1 is 1.0, and 9 is less than 100. It is a total order, which is proved, so `sort_by` may go by it; equal are those whose texts differ in
+    /// needless zeros alone. It refuses no decimal that this crate made.
     pub fn compare(&self, other: &Decimal) -> Result<Ordering, Refusal> {
         let mut order = [0];
         answered(calls::decimal_compare(&self.numbers, &other.numbers, &mut order))?;

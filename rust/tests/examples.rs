@@ -317,6 +317,54 @@ fn order_is_by_value() {
     assert_eq!(zero.compare(&parsed("0")), Ok(Equal));
 }
 
+/// A printed text without what does not tell the value: zeros at the front of the integral part and at the end of the fraction, and then a last point.
+fn plain(text: &str) -> String {
+    let (sign, number) = text.strip_prefix('-').map_or(("", text), |number| ("-", number));
+    let (integral, fraction) = number.split_once('.').unwrap_or((number, ""));
+    let (integral, fraction) = (integral.trim_start_matches('0'), fraction.trim_end_matches('0'));
+    let point = if fraction.is_empty() { "" } else { "." };
+    format!("{sign}{integral}{point}{fraction}")
+}
+
+/// The same decimal with its sign changed; a zero stays as it is.
+fn negated(decimal: &Decimal) -> Decimal {
+    let mut numbers = decimal.numbers();
+    if numbers[3..].iter().any(|&group| group != 0) {
+        numbers[2] ^= 1;
+    }
+    Decimal::from_numbers(numbers).unwrap()
+}
+
+#[test]
+fn order_is_an_order() {
+    let texts = ["0", "0.0", "000000000.0", "1", "1.0", "10", "100", "100.00", "9", "7.5", "-000000007.50", "-7.5", "0.05", "0.5", "-0.5", "999999999", "1000000000"];
+    let mut all: Vec<Decimal> = texts.iter().map(|text| parsed(text)).collect();
+    // With kept precision a text has zeros at the front of its integral part too.
+    all.push(Decimal::read_bin(&[0x80, 0, 0, 7, 50], 10, 2, true).unwrap());
+    all.push(Decimal::read_bin(&[0x7F, 0xFF, 0xFF, 0xF8, 0xCD], 10, 2, true).unwrap());
+    all.push(Decimal::read_bin(&[0x80, 0, 0, 0, 0], 10, 2, true).unwrap());
+    let mut equal = 0;
+    for a in &all {
+        assert_eq!(a.compare(a), Ok(Equal), "{a}");
+        for b in &all {
+            let order = a.compare(b).unwrap();
+            assert_eq!(b.compare(a), Ok(order.reverse()), "{b} {a}");
+            assert_eq!(negated(a).compare(&negated(b)), Ok(order.reverse()), "-({a}) -({b})");
+            assert_eq!(order == Equal, plain(&a.to_string()) == plain(&b.to_string()), "{a} {b}");
+            equal += usize::from(order == Equal);
+            for c in &all {
+                let carries = order.is_le() && b.compare(c).unwrap().is_le();
+                assert!(!carries || a.compare(c).unwrap().is_le(), "{a} {b} {c}");
+            }
+        }
+    }
+    // 0 stands there four ways, 1, 100 and 7.5 two ways, -7.5 three, and seven others once.
+    assert_eq!(equal, 4 * 4 + 3 * 2 * 2 + 3 * 3 + 7);
+    let mut marks = ["100", "9", "-2", "9.50", "0.5", "-10"].map(parsed);
+    marks.sort_by(|a, b| a.compare(b).unwrap());
+    assert_eq!(marks.map(|mark| mark.to_string()), ["-10", "-2", "0.5", "9", "9.50", "100"]);
+}
+
 #[test]
 fn written_bytes() {
     let price = parsed("12.34");

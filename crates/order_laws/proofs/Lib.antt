@@ -1,4 +1,5 @@
 pub mod Integers
+pub mod Called
 pub mod Compared
 pub mod Negated
 pub mod Ends

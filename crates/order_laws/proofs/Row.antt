@@ -1,5 +1,4 @@
--- A decimal's digits stand in one row of 65 integral and 81 fractional places, with zeros around them: the row writes its magnitude, so that two decimals
--- have one magnitude exactly where they have one row; and what it prints depends on the row alone.
+-- A decimal's digits, with zeros around them in 65 integral and 81 fractional places, write its magnitude; what it prints depends on that row alone.
 -- Assumes nothing.
 use mathlib.Core.Path.{_≡_, refl, sym, ap, _∙_}
 use mathlib.Core.Bool.{true}

@@ -1,7 +1,7 @@
--- The order of decimals is an order (document 02, W8): statements about what `Decimal::compare` answers, and the last about what `Decimal::print` puts too.
--- A caller has `Compares a b r` from the contract of a call `let r = a.compare(b)`, so each statement holds of the answers themselves. What is swapped,
--- reversed or carried is said of every record, since a refusal stays one; a record's groups are nine, as those of every value of its type are.
--- proofs/Order.antt proves each statement by its name.
+-- The order of decimals is an order (document 02, W8): each statement is a line about what `Decimal::compare` answers, and one about what `Decimal::print` puts
+-- too. `Compares` and `Prints` are what the contracts of the two functions say of a call, so the statements hold of the functions' own answers (proofs/Called.antt).
+-- They are said of all records, since a refusal stays one when it is swapped, reversed or carried; of those alone that are well formed where that matters. That
+-- a record has nine groups every caller knows by its type. Each is proved under its own name in proofs/Order.antt.
 -- Assumes nothing.
 use Prim.Native.Nat.{ℕ}
 use mathlib.Core.Path.{_≡_}
@@ -23,15 +23,15 @@ use Rattle.decimal.specs.declared.Decimal.{Decimal}
 use Rattle.order_laws.specs.Plain.{plain}
 
 -- ---- what the two functions answer
--- r is an answer of `compare` to a and b: its contract
+-- `compare` of a and b answers r
 abbrev pub Compares : Decimal → Decimal → Compared → Type 0
 Compares a b r = told r ≡ compareTold a b
 
--- and what it answers, as a function of them (proofs/Order.antt: `the-answer`)
+-- that answer, as a function of the two (proofs/Compared.antt)
 unfoldable pub compared : Decimal → Decimal → Compared
 compared a b = cond (both (isWell a) (isWell b)) (orderZ (value a) (value b)) (Refused 26)
 
--- `print` of d succeeds in an output `out` that is lent to it, and the characters that it counts are bs: its contract, `left` being the output afterwards
+-- `print` of d, in some output `out` that is lent to it, answers a count; `left` is the output afterwards, and bs are as many bytes at its front
 pub record Prints (d : Decimal) (bs : List ℕ) : Type 0 where
   pub out : List ℕ
   pub left : List ℕ
