@@ -83,8 +83,11 @@ impl Decimal {
         Ok(count[0] as usize)
     }
 
-    /// The order by value: 1 is 1.0, and 9 is less than 100. It is a total order, which is proved, so `sort_by` may go by it; equal are those whose texts differ in
-    /// needless zeros alone. It refuses no decimal that this crate made.
+    /// The order by value: 1 is 1.0, and 9 is less than 100. It is `Ok` for all decimals.
+    ///
+    /// Of the values it is a total order, which is proved of the archive's function (crates/order_laws), so marks may be sorted by it:
+    /// `marks.sort_by(|a, b| a.compare(b).expect("decimals"))`. Equal are those that print the same once zeros at the front of the integral part and at the end
+    /// of the fraction, and then a last point, are removed.
     pub fn compare(&self, other: &Decimal) -> Result<Ordering, Refusal> {
         let mut order = [0];
         answered(calls::decimal_compare(&self.numbers, &other.numbers, &mut order))?;

@@ -361,7 +361,7 @@ fn order_is_an_order() {
     // 0 stands there four ways, 1, 100 and 7.5 two ways, -7.5 three, and seven others once.
     assert_eq!(equal, 4 * 4 + 3 * 2 * 2 + 3 * 3 + 7);
     let mut marks = ["100", "9", "-2", "9.50", "0.5", "-10"].map(parsed);
-    marks.sort_by(|a, b| a.compare(b).unwrap());
+    marks.sort_by(|a, b| a.compare(b).expect("decimals"));
     assert_eq!(marks.map(|mark| mark.to_string()), ["-10", "-2", "0.5", "9", "9.50", "100"]);
 }
 

@@ -1,6 +1,7 @@
 /* Calls each function of include/bratthelm.h on document 01's examples, prints a line for each call, and last 'N passed, M failed'. */
 #include "bratthelm.h"
 #include <stdio.h>
+#include <stdlib.h>
 
 static unsigned passed, failed;
 
@@ -32,6 +33,29 @@ static uint32_t *fresh(void) {
 static void check(const char *name, int holds) {
     printf("%s%s\n", name, holds ? "" : "  WRONG");
     holds ? passed++ : failed++;
+}
+
+/* A comparator for qsort, of decimals. */
+static int by_value(const void *left, const void *right) {
+    uint32_t order = BRATTHELM_EQUAL;
+    bratthelm_decimal_compare(left, BRATTHELM_DECIMAL_LEN, right, BRATTHELM_DECIMAL_LEN, &order, 1);
+    return (int)order - BRATTHELM_EQUAL;
+}
+
+/* Sorts texts of decimals by value, and says whether they stand as they should. */
+static int sorts(const char *const *texts, const char *const *want, size_t count) {
+    uint32_t marks[8][BRATTHELM_DECIMAL_LEN], len;
+    uint8_t text[BRATTHELM_TEXT_MAX];
+    int same = count <= 8;
+    size_t i;
+    for (i = 0; same && i < count; i++)
+        same = bratthelm_decimal_parse((const uint8_t *)texts[i], strlen(texts[i]), marks[i], BRATTHELM_DECIMAL_LEN) == 0;
+    if (same)
+        qsort(marks, count, sizeof marks[0], by_value);
+    for (i = 0; same && i < count; i++)
+        same = bratthelm_decimal_print(marks[i], BRATTHELM_DECIMAL_LEN, text, sizeof text, &len, 1) == 0 && len == strlen(want[i]) &&
+               memcmp(text, want[i], len) == 0;
+    return same;
 }
 
 #define ROW(...) (const uint32_t[]){__VA_ARGS__}, sizeof((const uint32_t[]){__VA_ARGS__}) / sizeof(uint32_t)
@@ -131,6 +155,8 @@ int main(void) {
     expect("100 and 9", bratthelm_decimal_compare(hundred, 12, nine, 12, fresh(), 16), 0, row, ROW(BRATTHELM_GREATER));
     r = bratthelm_decimal_parse((const uint8_t *)"9.0", 3, d, 12);
     expect("9 and 9.0", r ? r : bratthelm_decimal_compare(nine, 12, d, 12, fresh(), 16), 0, row, ROW(BRATTHELM_EQUAL));
+    check("marks sorted by value", sorts((const char *const[]){"100", "9", "-2", "9.50", "0.5", "-10"},
+                                         (const char *const[]){"-10", "-2", "0.5", "9", "9.50", "100"}, 6));
     nine[11] = 1;
     expect("9 with an unused group and 100", bratthelm_decimal_compare(nine, 12, hundred, 12, fresh(), 16), BRATTHELM_ERR_RECORD, row, NONE);
 

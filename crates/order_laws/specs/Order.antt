@@ -1,7 +1,8 @@
--- The order of decimals is an order (document 02, W8): each statement is a line about what `Decimal::compare` answers, and one about what `Decimal::print` puts
--- too. `Compares` and `Prints` are what the contracts of the two functions say of a call, so the statements hold of the functions' own answers (proofs/Called.antt).
--- They are said of all records, since a refusal stays one when it is swapped, reversed or carried; of those alone that are well formed where that matters. That
--- a record has nine groups every caller knows by its type. Each is proved under its own name in proofs/Order.antt.
+-- The order of decimals is an order (document 02, W8). Each statement is about what `Decimal::compare` answers, and `EqualPrints` also about what `Decimal::print` puts:
+-- `Compares` and `Prints` are what the contracts of the two functions say of a call (proofs/Called.antt), so the statements hold of the functions' own answers.
+-- They are said of all records where they hold of all: a refusal stays one when it is swapped or reversed, and is not less or equal, so that nothing carries
+-- through it. Where records must be well formed, those that were read are (`Formed` of decimal_laws). That a record has nine groups a caller knows by its type:
+-- `search needs` finds it. proofs/Order.antt proves each, `OneHolds` as `one-holds`.
 -- Assumes nothing.
 use Prim.Native.Nat.{ℕ}
 use mathlib.Core.Path.{_≡_}

@@ -1,5 +1,6 @@
 -- What of a printed decimal tells its value (document 02, W8): its text after zeros at the front of the integral part and at the end of the fraction,
 -- and then a last point, are removed. The integral part begins after a minus. 48 is '0', 46 the point and 45 the minus.
+-- No decimal prints -0, so that a minus alone is no plain text of one.
 -- Assumes nothing.
 use Prim.Native.Nat.{ℕ}
 use mathlib.Core.Bool.{Bool, true, false, cond}

@@ -28,6 +28,8 @@ compare-requires-2 c κs = search needs
 is-le-requires-2 : tie.Need-is-le-requires-2
 is-le-requires-2 c κs = search needs
 
+-- `rt dev ranks` prints this file with a `?` in each of these two. A path has a `.before` for each thing that was bound later; what a call gave, and which way
+-- a test went, `search needs` finds.
 -- src/lib.rt:20:1
 returns : tie.Need-returns
 returns c =
