@@ -339,10 +339,15 @@ fn negated(decimal: &Decimal) -> Decimal {
 fn order_is_an_order() {
     let texts = ["0", "0.0", "000000000.0", "1", "1.0", "10", "100", "100.00", "9", "7.5", "-000000007.50", "-7.5", "0.05", "0.5", "-0.5", "999999999", "1000000000"];
     let mut all: Vec<Decimal> = texts.iter().map(|text| parsed(text)).collect();
-    // With kept precision a text has zeros at the front of its integral part too.
-    all.push(Decimal::read_bin(&[0x80, 0, 0, 7, 50], 10, 2, true).unwrap());
-    all.push(Decimal::read_bin(&[0x7F, 0xFF, 0xFF, 0xF8, 0xCD], 10, 2, true).unwrap());
-    all.push(Decimal::read_bin(&[0x80, 0, 0, 0, 0], 10, 2, true).unwrap());
+    // With kept precision and two groups before the point there are zeros at the front of the text.
+    for (bytes, text) in [
+        ([0x80, 0, 0, 0, 7, 50], "0000000007.50"),
+        ([0x7F, 0xFF, 0xFF, 0xFF, 0xF8, 0xCD], "-0000000007.50"),
+        ([0x80, 0, 0, 0, 0, 0], "0000000000.00"),
+    ] {
+        all.push(Decimal::read_bin(&bytes, 12, 2, true).unwrap());
+        assert_eq!(all[all.len() - 1].to_string(), text);
+    }
     let mut equal = 0;
     for a in &all {
         assert_eq!(a.compare(a), Ok(Equal), "{a}");

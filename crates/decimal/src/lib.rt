@@ -101,7 +101,7 @@ impl Decimal {
         printing::print(out, self.sign, self.intg, self.frac, gs)
     }
 
-    // The order of the two values. Its answers are an order, and tell when two decimals print alike: specs/Order.antt of the crate order_laws.
+    // The order of the two values. That its answers are an order, and how they go with what is printed: specs/Order.antt of the crate order_laws.
     pub fn compare(self, other: Decimal) -> Compared
         ensures { λ r. ⌜ told r ≡ compareTold self other ⌝ }
     {

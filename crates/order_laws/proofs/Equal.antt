@@ -4,12 +4,14 @@ use mathlib.Core.Path.{_≡_, refl, sym, ap, _∙_}
 use mathlib.Core.Bool.{Bool, true, false, cond}
 use mathlib.Core.List.{List, [], _∷_, _++_}
 use Prim.Native.Nat.{ℕ, zero, suc}
+use native.Mathlib.Nat.{le-refl}
 use native.Mathlib.Omega.{arith}
 use lib.Dec.{leb}
 use lib.IntN.{ℤ, pos, natAbs}
 use lib.Signed.{ltZ}
 use lib.ListN.{length, getD, take, drop}
 use lib.Seq.{take-at, drop-at}
+use borrow.Author.Tests.{le-leb}
 use Rattle.refusal.specs.Told.{Told, answer, refusal}
 use Rattle.groups.specs.Numbers.{number}
 use Rattle.groups.specs.Layout.{groupsOf}
@@ -92,3 +94,18 @@ prints-text d bs p = go (isWell d) (p .counts) (p .leaves)
         → (t ≡ true) × (bs ≡ printed d)
     go true h k = (refl, p .text ∙ told-text (printed d) (p .out) (p .left) (p .count) h k)
     go false h k = let e = ap (λ (t : Told). length (t .values)) h in absurd (omega arith)
+
+-- And every decimal prints, where the output has room for its text.
+pub prints : (d : Decimal) → isWell d ≡ true → Prints d (printed d)
+unfolding printTold printLeaves roomTold roomLeaves
+prints d w =
+    let n = length (printed d) in
+    let l = le-leb n n (le-refl n) in
+    record {
+      out = printed d;
+      left = printed d ++ drop n (printed d);
+      count = n;
+      counts = rw (w, l);
+      leaves = rw (w, l);
+      text = sym (take-at (printed d) (drop n (printed d)) n refl);
+    }

@@ -54,17 +54,17 @@ both-negated (negsuc a) (negsuc b) = leb·suc-suc (suc a) b
 abbrev answerOf : Bool → Bool → Compared
 answerOf s t = cond s Less (cond t Greater Equal)
 
-swapped-of : (s t : Bool) → (s ≡ true → t ≡ false) → answerOf t s ≡ reversed (answerOf s t)
-swapped-of true true h = absurd (subst T (h refl) tt)
-swapped-of true false h = refl
-swapped-of false true h = refl
-swapped-of false false h = refl
+swapped-answer : (s t : Bool) → (s ≡ true → t ≡ false) → answerOf t s ≡ reversed (answerOf s t)
+swapped-answer true true h = absurd (subst T (h refl) tt)
+swapped-answer true false h = refl
+swapped-answer false true h = refl
+swapped-answer false false h = refl
 
-le-of : (s t : Bool) → (s ≡ true → t ≡ false) → isLe (answerOf s t) ≡ not t
-le-of true true h = absurd (subst T (h refl) tt)
-le-of true false h = refl
-le-of false true h = refl
-le-of false false h = refl
+le-answer : (s t : Bool) → (s ≡ true → t ≡ false) → isLe (answerOf s t) ≡ not t
+le-answer true true h = absurd (subst T (h refl) tt)
+le-answer true false h = refl
+le-answer false true h = refl
+le-answer false false h = refl
 
 -- answers with different places are not the same
 abbrev pub place : Compared → ℕ
@@ -76,24 +76,19 @@ place (Refused n) = 3
 pub apart : (r s : Compared) → place r < place s → r ≡ s → ⊥
 apart r s l e = let q = ap place e in omega arith
 
-less-of : (s t : Bool) → answerOf s t ≡ Less → s ≡ true
-less-of true t e = refl
-less-of false true e = absurd (apart Less Greater (lit< tt) (sym e))
-less-of false false e = absurd (apart Less Equal (lit< tt) (sym e))
-
-equal-of : (s t : Bool) → answerOf s t ≡ Equal → (s ≡ false) × (t ≡ false)
-equal-of true t e = absurd (apart Less Equal (lit< tt) e)
-equal-of false true e = absurd (apart Equal Greater (lit< tt) (sym e))
-equal-of false false e = (refl, refl)
+equal-answer : (s t : Bool) → answerOf s t ≡ Equal → (s ≡ false) × (t ≡ false)
+equal-answer true t e = absurd (apart Less Equal (lit< tt) e)
+equal-answer false true e = absurd (apart Equal Greater (lit< tt) (sym e))
+equal-answer false false e = (refl, refl)
 
 -- ---- the laws
 pub swapped : (x y : ℤ) → orderZ y x ≡ reversed (orderZ x y)
 unfolding orderZ
-swapped x y = swapped-of (ltZ x y) (ltZ y x) (not-back x y)
+swapped x y = swapped-answer (ltZ x y) (ltZ y x) (not-back x y)
 
 le-is : (x y : ℤ) → isLe (orderZ x y) ≡ not (ltZ y x)
 unfolding orderZ
-le-is x y = le-of (ltZ x y) (ltZ y x) (not-back x y)
+le-is x y = le-answer (ltZ x y) (ltZ y x) (not-back x y)
 
 pub carried : (x y z : ℤ) → isLe (orderZ x y) ≡ true → isLe (orderZ y z) ≡ true → isLe (orderZ x z) ≡ true
 carried x y z h k =
@@ -101,31 +96,9 @@ carried x y z h k =
     let m = not-true (ltZ z y) (sym (le-is y z) ∙ k) in
     le-is x z ∙ ap not (not-through x y z l m)
 
-not-less : (x y : ℤ) → orderZ x y ≡ Less → ltZ x y ≡ false → ⊥
-unfolding orderZ
-not-less x y h k = subst T (sym (less-of (ltZ x y) (ltZ y x) h) ∙ k) tt
-
-less-is : (x y : ℤ) → (ltZ x y ≡ false → ⊥) → orderZ x y ≡ Less
-unfolding orderZ
-less-is x y h = go (ltZ x y) h
-  where
-    go : (s : Bool) → (s ≡ false → ⊥) → answerOf s (ltZ y x) ≡ Less
-    go true h = refl
-    go false h = absurd (h refl)
-
-pub less-carried : (x y z : ℤ) → orderZ x y ≡ Less → isLe (orderZ y z) ≡ true → orderZ x z ≡ Less
-less-carried x y z h k =
-    let m = not-true (ltZ z y) (sym (le-is y z) ∙ k) in
-    less-is x z (λ (e : ltZ x z ≡ false). not-less x y h (not-through y z x m e))
-
-pub carried-less : (x y z : ℤ) → isLe (orderZ x y) ≡ true → orderZ y z ≡ Less → orderZ x z ≡ Less
-carried-less x y z h k =
-    let m = not-true (ltZ y x) (sym (le-is x y) ∙ h) in
-    less-is x z (λ (e : ltZ x z ≡ false). not-less y z k (not-through z x y e m))
-
 pub equal-same : (x y : ℤ) → orderZ x y ≡ Equal → x ≡ y
 unfolding orderZ
-equal-same x y e = let h = equal-of (ltZ x y) (ltZ y x) e in neither x y (h .0) (h .1)
+equal-same x y e = let h = equal-answer (ltZ x y) (ltZ y x) e in neither x y (h .0) (h .1)
 
 pub same-equal : (x : ℤ) → orderZ x x ≡ Equal
 unfolding orderZ
@@ -142,4 +115,4 @@ one-of x y = go (ltZ x y) (ltZ y x)
 
 pub signs-changed : (x y : ℤ) → orderZ (negℤ x) (negℤ y) ≡ reversed (orderZ x y)
 unfolding orderZ
-signs-changed x y = rw (both-negated x y, both-negated y x) (swapped-of (ltZ x y) (ltZ y x) (not-back x y))
+signs-changed x y = rw (both-negated x y, both-negated y x) (swapped-answer (ltZ x y) (ltZ y x) (not-back x y))

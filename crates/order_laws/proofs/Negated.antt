@@ -16,22 +16,19 @@ use Rattle.decimal.specs.Write.{isWell}
 use Rattle.decimal.specs.Value.{value}
 use Rattle.decimal.specs.declared.Decimal.{Decimal}
 use Rattle.decimal_laws.proofs.Kept.{zero-value}
-use Rattle.order_laws.specs.Order.{negated}
+use Rattle.order_laws.specs.Order.{signChanged, negated}
 
 no-sign-on : (neg : Bool) (gs : List ℕ) → isNought gs ≡ false → signedNought neg gs ≡ false
 unfolding signedNought
 no-sign-on true gs z = z
 no-sign-on false gs z = refl
 
-abbrev changed : Decimal → Decimal
-changed d = record { intg = d .intg; frac = d .frac; sign = not (d .sign); groups = d .groups }
-
 -- What is a decimal, and nothing else, is one with its sign changed.
 pub negated-well : (d : Decimal) → isWell (negated d) ≡ isWell d
 unfolding negated
 negated-well d = go (isNought (d .groups)) refl
   where
-    go : (t : Bool) → isNought (d .groups) ≡ t → isWell (cond t d (changed d)) ≡ isWell d
+    go : (t : Bool) → isNought (d .groups) ≡ t → isWell (cond t d (signChanged d)) ≡ isWell d
     go true z = refl
     go false z =
         sign-right (not (d .sign)) (d .intg) (d .frac) (d .groups) (no-sign-on (not (d .sign)) (d .groups) z)
@@ -46,7 +43,7 @@ pub negated-value : (d : Decimal) → length (d .groups) ≡ 9 → value (negate
 unfolding negated value
 negated-value d n = go (isNought (d .groups)) refl
   where
-    go : (t : Bool) → isNought (d .groups) ≡ t → value (cond t d (changed d)) ≡ negℤ (value d)
+    go : (t : Bool) → isNought (d .groups) ≡ t → value (cond t d (signChanged d)) ≡ negℤ (value d)
     go true z =
         let e = eqb-true _ _ (sym (nought-number (d .groups) n) ∙ z) in
         let v : value d ≡ pos 0 = zero-value (d .sign) (groupsOf (d .intg)) (d .groups) e in

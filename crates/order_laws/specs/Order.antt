@@ -2,7 +2,7 @@
 -- `Compares` and `Prints` are what the contracts of the two functions say of a call (proofs/Called.antt), so the statements hold of the functions' own answers.
 -- They are said of all records where they hold of all: a refusal stays one when it is swapped or reversed, and is not less or equal, so that nothing carries
 -- through it. Where records must be well formed, those that were read are (`Formed` of decimal_laws). That a record has nine groups a caller knows by its type:
--- `search needs` finds it. proofs/Order.antt proves each, `OneHolds` as `one-holds`.
+-- `search needs` finds it, or `search (needs, c .. .good .0)` of a first argument. proofs/Order.antt proves each, `OneHolds` as `one-holds`.
 -- Assumes nothing.
 use Prim.Native.Nat.{ℕ}
 use mathlib.Core.Path.{_≡_}
@@ -42,9 +42,12 @@ pub record Prints (d : Decimal) (bs : List ℕ) : Type 0 where
   pub text : bs ≡ take count left
 
 -- ---- of one decimal
+abbrev pub signChanged : Decimal → Decimal
+signChanged d = record { intg = d .intg; frac = d .frac; sign = not (d .sign); groups = d .groups }
+
 -- the decimal with its sign changed; a zero stays as it is, since with a sign it would be none
 unfoldable pub negated : Decimal → Decimal
-negated d = cond (isNought (d .groups)) d (record { intg = d .intg; frac = d .frac; sign = not (d .sign); groups = d .groups })
+negated d = cond (isNought (d .groups)) d (signChanged d)
 
 -- ---- of one answer
 -- less and greater swapped

@@ -12,25 +12,20 @@ use Rattle.ranks.proofs.in_order.Lts as lts
 use Rattle.decimal.proofs.Decimal.compare.Reads as compare-reads
 use Rattle.ranks.proofs.is_le.Reads as is-le-reads
 
--- src/lib.rt:23:14
 compare-requires : tie.Need-compare-requires
 compare-requires c κs = search needs
 
--- src/lib.rt:23:8
 is-le-requires : tie.Need-is-le-requires
 is-le-requires c κs = search needs
 
--- src/lib.rt:24:15
 compare-requires-2 : tie.Need-compare-requires-2
 compare-requires-2 c κs = search needs
 
--- src/lib.rt:24:9
 is-le-requires-2 : tie.Need-is-le-requires-2
 is-le-requires-2 c κs = search needs
 
 -- `rt dev ranks` prints this file with a `?` in each of these two. A path has a `.before` for each thing that was bound later; what a call gave, and which way
 -- a test went, `search needs` finds.
--- src/lib.rt:20:1
 returns : tie.Need-returns
 returns c =
     let a = c .before .before .before .before .before .args in
@@ -42,7 +37,6 @@ returns c =
     let q : c .is-le2 .result ≡ isLe s = search needs in
     q ∙ sym (in-order (a .low) (a .middle) (a .high) r h s k e)
 
--- src/lib.rt:20:1
 returns-2 : tie.Need-returns-2
 returns-2 c =
     let a = c .before .before .before .args in
