@@ -172,10 +172,11 @@ uint32_t bratthelm_decimal_write_bin(const uint32_t *decimal, size_t decimal_len
 /* Prints a decimal to the front of `text`, without a 0 at the end, and answers how many characters it has: 26, then 25, as above. */
 uint32_t bratthelm_decimal_print(const uint32_t *decimal, size_t decimal_len, uint8_t *text, size_t text_len, uint32_t *answer, size_t answer_len);
 
-/* The order of two decimals by value, one number: 0 less, 1 equal, 2 greater; 26 where either is no decimal. Of decimals it is an order (crates/order_laws), so
- * that rows can be sorted by it: a comparator for qsort returns (int)answer[0] - BRATTHELM_EQUAL, since what this function returns is the refusal. A row
- * that a function here answered is not refused; test rows of your own before the sort. Equal are those that print the same once zeros at the front of
- * the integral part and at the end of the fraction, and then a last point, are removed; qsort need not leave them as they stood. */
+/* The order of two decimals by value, one number: 0 less, 1 equal, 2 greater; 26 where either is no decimal. The comparison behind
+ * it is an order of decimals (crates/order_laws), so rows can be sorted by it: a comparator for qsort returns (int)answer[0] - BRATTHELM_EQUAL, since what
+ * this function returns is the refusal. A row that a function here answered is not refused; test rows of your own before the sort. Equal are those that
+ * print the same once zeros at the front of the integral part and at the end of the fraction, and then a last point, are removed; qsort need not leave
+ * them as they stood. */
 uint32_t bratthelm_decimal_compare(const uint32_t *left, size_t left_len, const uint32_t *right, size_t right_len, uint32_t *answer,
                                    size_t answer_len);
 

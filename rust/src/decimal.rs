@@ -85,7 +85,7 @@ impl Decimal {
 
     /// The order by value: 1 is 1.0, and 9 is less than 100. It is `Ok` for all decimals.
     ///
-    /// Of the values it is a total order, which is proved of the archive's function (crates/order_laws), so marks may be sorted by it:
+    /// Of the values it is a total order, which is proved of the comparison whose answer the archive passes on (crates/order_laws), so marks may be sorted by it:
     /// `marks.sort_by(|a, b| a.compare(b).expect("decimals"))`. Equal are those that print the same once zeros at the front of the integral part and at the end
     /// of the fraction, and then a last point, are removed.
     pub fn compare(&self, other: &Decimal) -> Result<Ordering, Refusal> {
