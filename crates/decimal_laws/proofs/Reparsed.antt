@@ -21,14 +21,14 @@ use Rattle.decimal_laws.proofs.Trimmed.{Trimmed, trimmed-length, trim-n
 show-digit : (x : ℕ) → x < 10 → isDigit (show x) ≡ true
 show-digit x h = simp (le-leb 48 (x + 48) (omega arith), le-leb (x + 48) 57 (omega arith))
 
-show-zero : (x : ℕ) → eqb (show x) 48 ≡ eqb x 0
+pub show-zero : (x : ℕ) → eqb (show x) 48 ≡ eqb x 0
 show-zero x = go (eqb x 0) refl
   where
     go : (t : Bool) → eqb x 0 ≡ t → eqb (show x) 48 ≡ t
     go true e = let q = eqb-true x 0 e in eq-eqb (x + 48) 48 (omega arith)
     go false e = let q = eqb-false x 0 e in ne-eqb (x + 48) 48 (λ (p : x + 48 ≡ 48). q (omega arith))
 
-shown : (xs : List ℕ) → map digitOf (map show xs) ≡ xs
+pub shown : (xs : List ℕ) → map digitOf (map show xs) ≡ xs
 shown [] = refl
 shown (x ∷ xs) = let e : x + 48 - 48 ≡ x = omega arith in rw (e, shown xs)
 
@@ -58,7 +58,7 @@ pointed-tail (y ∷ ys) h =
     let r = run-all (y ∷ ys) h in
     eq-eqb (run (map show (y ∷ ys))) (suc (length (map show ys))) (omega arith)
 
-after-tail : (ys : List ℕ) → drop 1 (tailOf ys) ≡ map show ys
+pub after-tail : (ys : List ℕ) → drop 1 (tailOf ys) ≡ map show ys
 after-tail [] = refl
 after-tail (y ∷ ys) = refl
 
@@ -95,7 +95,7 @@ strip-text : (neg : Bool) (xs ys : List ℕ) → strip (signText neg ++ (map sho
 strip-text true xs ys = strip-minus _
 strip-text false xs ys = strip-shown xs ys
 
-no-sign : (x c : ℕ) → c < 48 → eqb (show x) c ≡ false
+pub no-sign : (x c : ℕ) → c < 48 → eqb (show x) c ≡ false
 no-sign x c h = ne-eqb (x + 48) c (λ (e : x + 48 ≡ c). omega arith)
 
 minus-text : (neg : Bool) (xs rest : List ℕ) → 1 ≤ length xs → minus (signText neg ++ (map show xs ++ rest)) ≡ neg

@@ -12,11 +12,6 @@ use Rattle.groups.specs.Numbers.{both}
 use Rattle.groups.proofs.Accept.{both-true}
 use Rattle.order_laws.specs.Plain.{withoutFront, withoutEnd, isEmpty}
 
--- ---- how many there are
-frontCount : ℕ → List ℕ → ℕ
-frontCount z [] = 0
-frontCount z (b ∷ bs) = cond (eqb b z) (suc (frontCount z bs)) 0
-
 module _ (z : ℕ) where
   -- ---- at the front
   pub front-zeros : (n : ℕ) (xs : List ℕ) → withoutFront z (replicate n z ++ xs) ≡ withoutFront z xs
@@ -24,28 +19,23 @@ module _ (z : ℕ) where
   front-zeros zero xs = refl
   front-zeros (suc n) xs = rw (eq-eqb z z refl) (front-zeros n xs)
 
-  -- the zeros that are removed, put back
-  front-back : (xs : List ℕ) → replicate (frontCount z xs) z ++ withoutFront z xs ≡ xs
-  unfolding frontCount withoutFront
+  -- the zeros that are removed, put back; ws is what is left of xs
+  front-step : (x : ℕ) (xs ws : List ℕ) (t : Bool) → eqb x z ≡ t → replicate (length xs - length ws) z ++ ws ≡ xs
+      → replicate (suc (length xs) - length (cond t ws (x ∷ xs))) z ++ cond t ws (x ∷ xs) ≡ x ∷ xs
+  front-step x xs ws false e h = let q : suc (length xs) - suc (length xs) ≡ 0 = omega arith in rw q
+  front-step x xs ws true e h =
+      let l = rw (length-append, length-replicate) at (ap length h) in
+      let q : suc (length xs) - length ws ≡ suc (length xs - length ws) = omega arith in
+      rw (q, eqb-true x z e) (ap (λ (ys : List ℕ). z ∷ ys) h)
+
+  front-back : (xs : List ℕ) → replicate (length xs - length (withoutFront z xs)) z ++ withoutFront z xs ≡ xs
+  unfolding withoutFront
   front-back [] = refl
-  front-back (x ∷ xs) = go (eqb x z) refl (front-back xs)
-    where
-      go : (t : Bool) → eqb x z ≡ t → replicate (frontCount z xs) z ++ withoutFront z xs ≡ xs
-          → replicate (cond t (suc (frontCount z xs)) 0) z ++ cond t (withoutFront z xs) (x ∷ xs) ≡ x ∷ xs
-      go true e h = rw (eqb-true x z e) (ap (λ (ys : List ℕ). z ∷ ys) h)
-      go false e h = refl
+  front-back (x ∷ xs) = front-step x xs (withoutFront z xs) (eqb x z) refl (front-back xs)
 
-  front-count : (xs : List ℕ) → frontCount z xs ≡ length xs - length (withoutFront z xs)
-  front-count xs =
-      let e = ap length (front-back xs) in
-      let l = rw (length-append (replicate (frontCount z xs) z) (withoutFront z xs), length-replicate {A = ℕ} (frontCount z xs) z) at e in
-      omega arith
-
-  -- lists of one length without zeros at the front are told by what is left
+  -- lists of one length are told by what is left of them
   pub front-same : (xs ys : List ℕ) → length xs ≡ length ys → withoutFront z xs ≡ withoutFront z ys → xs ≡ ys
-  front-same xs ys l e =
-      let c : frontCount z xs ≡ frontCount z ys = front-count xs ∙ rw (l, e) (sym (front-count ys)) in
-      sym (front-back xs) ∙ rw (c, e) (front-back ys)
+  front-same xs ys l e = sym (front-back xs) ∙ rw (l, e) (front-back ys)
 
   -- ---- at the end
   all-end : (n : ℕ) → withoutEnd z (replicate n z) ≡ []

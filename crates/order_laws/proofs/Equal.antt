@@ -2,20 +2,21 @@
 -- Assumes nothing.
 use mathlib.Core.Path.{_≡_, refl, sym, ap, _∙_}
 use mathlib.Core.Bool.{Bool, true, false, cond}
+use mathlib.Core.Logic.{⊎-elim}
 use mathlib.Core.List.{List, [], _∷_, _++_}
-use Prim.Native.Nat.{ℕ, zero, suc}
+use Prim.Native.Nat.{ℕ, zero, suc, _≤_, _<_}
 use native.Mathlib.Nat.{le-refl}
 use native.Mathlib.Omega.{arith}
-use lib.Dec.{leb}
 use lib.IntN.{ℤ, pos, natAbs}
 use lib.Signed.{ltZ}
 use lib.ListN.{length, getD, take, drop}
 use lib.Seq.{take-at, drop-at}
-use borrow.Author.Tests.{le-leb}
 use Rattle.refusal.specs.Told.{Told, answer, refusal}
 use Rattle.groups.specs.Numbers.{number}
 use Rattle.groups.specs.Layout.{groupsOf}
 use Rattle.groups.specs.Write.{roomTold, roomLeaves}
+use Rattle.groups.proofs.Caps.{below-or-not}
+use Rattle.groups.proofs.Room.{short, fits}
 use Rattle.order.specs.Value.{magnitude, signed}
 use Rattle.decimal.specs.Write.{isWell}
 use Rattle.decimal.specs.Text.{printed, printTold, printLeaves}
@@ -78,12 +79,16 @@ module _ (a b : Decimal) (p : IsDecimal a) (q : IsDecimal b) where
 
 -- ---- what `print` puts is the printed text
 told-text : (bs out left : List ℕ) (n : ℕ) → answer (n ∷ []) ≡ roomTold bs out → left ≡ roomLeaves bs out → take n left ≡ bs
-unfolding roomTold roomLeaves
-told-text bs out left n = go (leb (length bs) (length out))
+told-text bs out left n h k = ⊎-elim no-room room (below-or-not (length out) (length bs))
   where
-    go : (t : Bool) → answer (n ∷ []) ≡ cond t (answer (length bs ∷ [])) (refusal 25) → left ≡ cond t (bs ++ drop (length bs) out) out → take n left ≡ bs
-    go true h k = let e : n ≡ length bs = ap (λ (t : Told). getD (t .values) 0 0) h in rw k (take-at bs (drop (length bs) out) n (sym e))
-    go false h k = let e = ap (λ (t : Told). length (t .values)) h in absurd (omega arith)
+    no-room : length out < length bs → take n left ≡ bs
+    no-room l = let e = ap (λ (t : Told). length (t .values)) (h ∙ short bs out refl l .0) in absurd (omega arith)
+
+    room : length bs ≤ length out → take n left ≡ bs
+    room l =
+        let f = fits bs out refl l in
+        let e : n ≡ length bs = ap (λ (t : Told). getD (t .values) 0 0) (h ∙ f .0) in
+        rw (k, f .1) (take-at bs (drop (length bs) out) n (sym e))
 
 -- A record that prints is a decimal, and what it prints is its text.
 pub prints-text : (d : Decimal) (bs : List ℕ) → Prints d bs → (isWell d ≡ true) × (bs ≡ printed d)
@@ -97,15 +102,15 @@ prints-text d bs p = go (isWell d) (p .counts) (p .leaves)
 
 -- And every decimal prints, where the output has room for its text.
 pub prints : (d : Decimal) → isWell d ≡ true → Prints d (printed d)
-unfolding printTold printLeaves roomTold roomLeaves
+unfolding printTold printLeaves
 prints d w =
     let n = length (printed d) in
-    let l = le-leb n n (le-refl n) in
+    let f = fits (printed d) (printed d) refl (le-refl n) in
     record {
       out = printed d;
-      left = printed d ++ drop n (printed d);
+      left = roomLeaves (printed d) (printed d);
       count = n;
-      counts = rw (w, l);
-      leaves = rw (w, l);
-      text = sym (take-at (printed d) (drop n (printed d)) n refl);
+      counts = rw w (sym (f .0));
+      leaves = rw w;
+      text = rw (f .1) (sym (take-at (printed d) (drop n (printed d)) n refl));
     }

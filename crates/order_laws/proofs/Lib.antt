@@ -1,3 +1,4 @@
+pub mod Examples
 pub mod Integers
 pub mod Called
 pub mod Compared
@@ -6,5 +7,4 @@ pub mod Ends
 pub mod Shown
 pub mod Row
 pub mod Equal
-pub mod Examples
 pub mod Order

@@ -3,47 +3,27 @@
 use mathlib.Core.Path.{_≡_, refl, sym, ap, _∙_}
 use mathlib.Core.Bool.{Bool, true, false, cond}
 use mathlib.Core.List.{List, [], _∷_, _++_, map, append-nil, append-cancel-left}
-use Prim.Native.Nat.{ℕ, _+_, _-_, _<_}
-use native.Mathlib.Omega.{arith}
+use Prim.Native.Nat.{ℕ, _+_}
 use lib.Dec.{eqb, lit<}
 use lib.ListN.{getD, drop}
-use borrow.Author.Tests.{eq-eqb, ne-eqb, eqb-true}
 use Rattle.groups.specs.Numbers.{both}
-use Rattle.groups.proofs.Caps.{same-test}
 use Rattle.printing.specs.Print.{show, signText}
-use Rattle.decimal_laws.proofs.Reparsed.{tailOf}
-use Rattle.order_laws.specs.Plain.{withoutFront, withoutEnd, withoutLastPoint, isEmpty, integralPart, fractionPart, plainNumber, plain}
-
--- ---- a digit's character
-show-zero : (x : ℕ) → eqb (show x) 48 ≡ eqb x 0
-show-zero x =
-    same-test (eqb (show x) 48) (eqb x 0)
-    (λ h. let e = eqb-true (show x) 48 h in eq-eqb x 0 (omega arith))
-    (λ h. let e = eqb-true x 0 h in eq-eqb (show x) 48 (omega arith))
-
-show-not : (x k : ℕ) → k < 48 → eqb (show x) k ≡ false
-show-not x k l = ne-eqb (show x) k (λ (e : show x ≡ k). omega arith)
-
-unshow : ℕ → ℕ
-unshow b = b - 48
-
-unshown : (xs : List ℕ) → map unshow (map show xs) ≡ xs
-unfolding unshow
-unshown [] = refl
-unshown (x ∷ xs) = let q : x + 48 - 48 ≡ x = omega arith in rw (q, unshown xs)
+use Rattle.numeral.specs.Read.{digitOf}
+use Rattle.decimal_laws.proofs.Reparsed.{tailOf, show-zero, shown, after-tail, no-sign}
+use Rattle.order_laws.specs.Plain.{withoutFront, withoutEnd, withoutLastPoint, isEmpty, beforePoint, fromPoint, plainNumber, plain}
 
 -- ---- the parts
-pub integral-shown : (xs ys : List ℕ) → integralPart (map show xs ++ tailOf ys) ≡ map show xs
-unfolding integralPart
-integral-shown [] [] = refl
-integral-shown [] (y ∷ ys) = refl
-integral-shown (x ∷ xs) ys = rw (show-not x 46 (lit< tt), integral-shown xs ys)
+pub before-shown : (xs ys : List ℕ) → beforePoint (map show xs ++ tailOf ys) ≡ map show xs
+unfolding beforePoint
+before-shown [] [] = refl
+before-shown [] (y ∷ ys) = refl
+before-shown (x ∷ xs) ys = rw (no-sign x 46 (lit< tt), before-shown xs ys)
 
-pub fraction-shown : (xs ys : List ℕ) → fractionPart (map show xs ++ tailOf ys) ≡ tailOf ys
-unfolding fractionPart
-fraction-shown [] [] = refl
-fraction-shown [] (y ∷ ys) = refl
-fraction-shown (x ∷ xs) ys = rw (show-not x 46 (lit< tt), fraction-shown xs ys)
+pub from-shown : (xs ys : List ℕ) → fromPoint (map show xs ++ tailOf ys) ≡ tailOf ys
+unfolding fromPoint
+from-shown [] [] = refl
+from-shown [] (y ∷ ys) = refl
+from-shown (x ∷ xs) ys = rw (no-sign x 46 (lit< tt), from-shown xs ys)
 
 -- ---- without zeros
 front-shown : (xs : List ℕ) → withoutFront 48 (map show xs) ≡ map show (withoutFront 0 xs)
@@ -73,7 +53,7 @@ end-shown (x ∷ xs) = rw (show-zero x, end-shown xs, empty-shown (withoutEnd 0 
 last-shown : (xs rest : List ℕ) → withoutLastPoint (map show xs ++ rest) ≡ map show xs ++ withoutLastPoint rest
 unfolding withoutLastPoint
 last-shown [] rest = refl
-last-shown (x ∷ xs) rest = rw (show-not x 46 (lit< tt), last-shown xs rest)
+last-shown (x ∷ xs) rest = rw (no-sign x 46 (lit< tt), last-shown xs rest)
 
 last-digits : (xs : List ℕ) → withoutLastPoint (map show xs) ≡ map show xs
 unfolding withoutLastPoint
@@ -94,13 +74,13 @@ fraction-ends (y ∷ ys) = ap (λ (bs : List ℕ). withoutLastPoint (46 ∷ bs))
 number-shown : (xs ys : List ℕ) → plainNumber (map show xs ++ tailOf ys) ≡ map show (withoutFront 0 xs) ++ tailOf (withoutEnd 0 ys)
 unfolding plainNumber
 number-shown xs ys =
-    rw (integral-shown xs ys, fraction-shown xs ys, front-shown xs, last-shown (withoutFront 0 xs) (withoutEnd 48 (tailOf ys)), fraction-ends ys)
+    rw (before-shown xs ys, from-shown xs ys, front-shown xs, last-shown (withoutFront 0 xs) (withoutEnd 48 (tailOf ys)), fraction-ends ys)
 
 no-minus : (xs ys : List ℕ) → plain (map show xs ++ tailOf ys) ≡ plainNumber (map show xs ++ tailOf ys)
 unfolding plain withoutFront withoutEnd
 no-minus [] [] = sym (number-shown [] [])
 no-minus [] (y ∷ ys) = refl
-no-minus (x ∷ xs) ys = rw (show-not x 45 (lit< tt))
+no-minus (x ∷ xs) ys = rw (no-sign x 45 (lit< tt))
 
 pub plain-shown : (neg : Bool) (xs ys : List ℕ)
     → plain (signText neg ++ (map show xs ++ tailOf ys)) ≡ signText neg ++ (map show (withoutFront 0 xs) ++ tailOf (withoutEnd 0 ys))
@@ -116,17 +96,16 @@ sign-told : (neg : Bool) (ws fs : List ℕ) → eqb (getD (texted neg ws fs) 0 0
 sign-told true ws fs = refl
 sign-told false [] [] = refl
 sign-told false [] (f ∷ fs) = refl
-sign-told false (w ∷ ws) fs = show-not w 45 (lit< tt)
+sign-told false (w ∷ ws) fs = no-sign w 45 (lit< tt)
 
-tail-told : (ys : List ℕ) → map unshow (drop 1 (tailOf ys)) ≡ ys
-tail-told [] = refl
-tail-told (y ∷ ys) = unshown (y ∷ ys)
+tail-told : (ys : List ℕ) → map digitOf (drop 1 (tailOf ys)) ≡ ys
+tail-told ys = ap (map digitOf) (after-tail ys) ∙ shown ys
 
 -- A plain text tells its sign, its integral digits and its fraction.
 pub taken-apart : (m n : Bool) (ws xs fs ys : List ℕ) → texted m ws fs ≡ texted n xs ys → (m ≡ n) × (ws ≡ xs) × (fs ≡ ys)
 taken-apart m n ws xs fs ys e =
     let q : m ≡ n = sym (sign-told m ws fs) ∙ ap (λ (bs : List ℕ). eqb (getD bs 0 0) 45) e ∙ sign-told n xs ys in
     let d : map show ws ++ tailOf fs ≡ map show xs ++ tailOf ys = append-cancel-left (signText n) _ _ (rw q at e) in
-    let i = sym (integral-shown ws fs) ∙ ap integralPart d ∙ integral-shown xs ys in
-    let f = sym (fraction-shown ws fs) ∙ ap fractionPart d ∙ fraction-shown xs ys in
-    (q, sym (unshown ws) ∙ ap (map unshow) i ∙ unshown xs, sym (tail-told fs) ∙ ap (λ (bs : List ℕ). map unshow (drop 1 bs)) f ∙ tail-told ys)
+    let i = sym (before-shown ws fs) ∙ ap beforePoint d ∙ before-shown xs ys in
+    let f = sym (from-shown ws fs) ∙ ap fromPoint d ∙ from-shown xs ys in
+    (q, sym (shown ws) ∙ ap (map digitOf) i ∙ shown xs, sym (tail-told fs) ∙ ap (λ (bs : List ℕ). map digitOf (drop 1 bs)) f ∙ tail-told ys)

@@ -27,19 +27,19 @@ unfoldable pub withoutLastPoint : List ℕ → List ℕ
 withoutLastPoint [] = []
 withoutLastPoint (b ∷ bs) = cond (both (eqb b 46) (isEmpty bs)) [] (b ∷ withoutLastPoint bs)
 
--- what stands before the point
-unfoldable pub integralPart : List ℕ → List ℕ
-integralPart [] = []
-integralPart (b ∷ bs) = cond (eqb b 46) [] (b ∷ integralPart bs)
+-- what stands before the point: the integral part
+unfoldable pub beforePoint : List ℕ → List ℕ
+beforePoint [] = []
+beforePoint (b ∷ bs) = cond (eqb b 46) [] (b ∷ beforePoint bs)
 
--- the point and the fraction after it
-unfoldable pub fractionPart : List ℕ → List ℕ
-fractionPart [] = []
-fractionPart (b ∷ bs) = cond (eqb b 46) (b ∷ bs) (fractionPart bs)
+-- the point, and after it the fraction
+unfoldable pub fromPoint : List ℕ → List ℕ
+fromPoint [] = []
+fromPoint (b ∷ bs) = cond (eqb b 46) (b ∷ bs) (fromPoint bs)
 
 -- of a text without a minus
 unfoldable pub plainNumber : List ℕ → List ℕ
-plainNumber bs = withoutLastPoint (withoutFront 48 (integralPart bs) ++ withoutEnd 48 (fractionPart bs))
+plainNumber bs = withoutLastPoint (withoutFront 48 (beforePoint bs) ++ withoutEnd 48 (fromPoint bs))
 
 unfoldable pub plain : List ℕ → List ℕ
 plain [] = []

@@ -15,7 +15,7 @@ module _ (low middle high : Decimal) (r : Compared) (h : Compares low middle r) 
   unfolding inOrder
   out-of-order e = rw (← the-answer low middle r h, e)
 
-  pub third-pair : (s : Compared) → Compares middle high s → isLe r ≡ true → isLe s ≡ true → isLe (compared low high) ≡ true
+  third-pair : (s : Compared) → Compares middle high s → isLe r ≡ true → isLe s ≡ true → isLe (compared low high) ≡ true
   third-pair s k p q = carries low middle high r s (compared low high) h k (compares low high) p q
 
   pub in-order : (s : Compared) → Compares middle high s → isLe r ≡ true → inOrder low middle high ≡ isLe s
