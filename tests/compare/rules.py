@@ -185,19 +185,25 @@ def key_text(words, ours, theirs, walk):
 
 
 def broken_key(doc, walk):
-    """Whether the place of a walk's refusal is the entry of a key that is not UTF-8, in one of the objects that it listed."""
+    """Whether the place of a walk's refusal is that of a byte, or the end, of a key that is not UTF-8, in one of the objects that it listed."""
     listed, (_, place) = events(walk)
     for code, _, _, _, _, start, _, count in listed:
-        width = 4 if code == 1 else 2
-        first = start + 2 * width
-        if code > 1 or not first <= place < first + count * (width + 2) or (place - first) % (width + 2):
+        if code > 1:
             continue
-        offset = start + int.from_bytes(doc[place:place + width], "little")
-        length = int.from_bytes(doc[place + width:place + width + 2], "little")
-        try:
-            doc[offset:offset + length].decode("utf-8")
-        except UnicodeDecodeError:
-            return True
+        width = 4 if code == 1 else 2
+        for entry in range(start + 2 * width, start + 2 * width + count * (width + 2), width + 2):
+            offset = start + int.from_bytes(doc[entry:entry + width], "little")
+            length = int.from_bytes(doc[entry + width:entry + width + 2], "little")
+            if offset <= place <= offset + length and broken(doc[offset:offset + length]):
+                return True
+    return False
+
+
+def broken(text):
+    try:
+        text.decode("utf-8")
+    except UnicodeDecodeError:
+        return True
     return False
 
 

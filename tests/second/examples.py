@@ -102,7 +102,7 @@ def examples():
     root = "1 / 0 0 0 0 0 1 17 1"
     add("w 2048 : " + zoe, "2" + root[1:] + " / 12 1 0 12 1 14 4 0")
     add("im 0 1 1 17 : " + zoe, "key 12 1 = scalar 12 string 14 4 ; nothing")
-    add("w 2048 : " + zoe[:-2] + "22", root + " refused 9 at 9")
+    add("w 2048 : " + zoe[:-2] + "22", root + " refused 9 at 17")
     add("w 2048 : " + zoe.replace("0B 00", "0A 00"), root + " refused 5 at 5")
 
     shared = "02 02 00 0C 00 0C 07 00 04 01 00 41 42"
@@ -303,13 +303,13 @@ def edges():
     add("k 0 1 1 12 0 " + one_member(12, 0, tail="61"), "key 13 0")
     add("k 0 1 1 12 0 " + one_member(11, 1, tail="ff"), "key 12 1")
     add("w 9 " + one_member(11, 0), "2 / 0 0 0 0 0 1 11 1 / 4 1 0 12 0 10 1 0")
-    add("w 9 " + one_member(11, 1, tail="ff"), "1 / 0 0 0 0 0 1 12 1 refused 9 at 5")
-    add("w 9 " + one_member(11, 1, "0d0000", "ff"), "1 / 0 0 0 0 0 1 12 1 refused 9 at 5")
+    add("w 9 " + one_member(11, 1, tail="ff"), "1 / 0 0 0 0 0 1 12 1 refused 9 at 12")
+    add("w 9 " + one_member(11, 1, "0d0000", "ff"), "1 / 0 0 0 0 0 1 12 1 refused 9 at 12")
     add("w 9 " + one_member(11, 2, "0d0000", "ff"), "1 / 0 0 0 0 0 1 12 1 refused 5 at 5")
     add("w 9 " + one_member(11, 1, "0d0000", "61"), "1 / 0 0 0 0 0 1 12 1 refused 2 at 9")
     add("w 1 " + one_member(11, 1, "0d0000", "61"), "1 / 0 0 0 0 0 1 12 1 refused 2 at 9")
     add("w 1 " + one_member(11, 1, "040000", "61"), "1 / 0 0 0 0 0 1 12 1 refused 12 at 9")
-    add("w 1 " + one_member(11, 1, "040000", "ff"), "1 / 0 0 0 0 0 1 12 1 refused 9 at 5")
+    add("w 1 " + one_member(11, 1, "040000", "ff"), "1 / 0 0 0 0 0 1 12 1 refused 9 at 12")
     add("w 9 " + one_member(11, 1, "040300", "61"), "1 / 0 0 0 0 0 1 12 1 refused 7 at 9")
     # Key and value share their bytes; the value's length byte may be a key too.
     add("w 9 " + one_member(12, 1, "0c0b00", "0161"), "2 / 0 0 0 0 0 1 13 1 / 12 1 0 13 1 13 1 0")
@@ -433,8 +433,8 @@ def edges():
     add("w 0 0401", "0 refused 12 at 0")
     add("w 0 0403", "0 refused 7 at 0")
     add("w 0 0d", "0 refused 2 at 0")
-    add("w 0 0c01ff", "0 refused 9 at 0")
-    add("w 1 0c01ff", "0 refused 9 at 0")
+    add("w 0 0c01ff", "0 refused 9 at 2")
+    add("w 1 0c01ff", "0 refused 9 at 2")
     add("v 0c01ff", "scalar 12 string 2 1")
     add("w 1 0c0161", "1 / 12 0 0 0 0 2 1 0")
     add("w 1 0401", "1 / 4 0 0 0 0 1 1 0")
@@ -443,7 +443,7 @@ def edges():
     add("w 1 " + first, "1 / 2 0 0 0 0 1 10 2 refused 12 at 5")
     add("w 3 " + first, "3 / 2 0 0 0 0 1 10 2 / 4 1 0 0 0 6 1 0 / 5 1 1 0 0 9 2 0")
     add("w 1 : 02 0200 0a00 04 0300 04 0100", "1 / 2 0 0 0 0 1 10 2 refused 7 at 5")
-    add("w 1 " + one_element(12, 7, "01ff"), "1 / 2 0 0 0 0 1 9 1 refused 9 at 5")
+    add("w 1 " + one_element(12, 7, "01ff"), "1 / 2 0 0 0 0 1 9 1 refused 9 at 9")
     add("w 2048 " + nested_arrays(1).hex(), nested_answer(1))
     add("w 2048 " + nested_arrays(99).hex(), nested_answer(99))
     add("w 2048 " + nested_arrays(102).hex(), nested_answer(102))
@@ -473,9 +473,15 @@ def edges():
     # The UTF-8 test.
     for good in ("", "00", "7f", "c280", "dfbf", "e0a080", "ed9fbf", "ee8080", "efbfbf", "f0908080", "f48fbfbf"):
         add("u " + (good or "-"), "utf8")
-    for bad in ("80", "bf", "c0", "c080", "c1bf", "c2", "c241", "e09fbf", "e0a0", "eda080", "edbfbf", "f08fbfbf",
-                "f4908080", "f5808080", "f8", "fe", "ff", "f09080", "c2c280", "e28281ff"):
-        add("u " + bad, "bad")
+    for bad, place in (("80", 0), ("bf", 0), ("c0", 0), ("c080", 0), ("c1bf", 0), ("c2", 1), ("c241", 1), ("e09fbf", 1), ("e0a0", 2), ("eda080", 1),
+                       ("edbfbf", 1), ("f08fbfbf", 1), ("f4908080", 1), ("f5808080", 0), ("f8", 0), ("fe", 0), ("ff", 0), ("f09080", 3),
+                       ("c2c280", 1), ("e28281ff", 3), ("f0908041", 3), ("61c3", 2), ("61c322", 2), ("c3abff", 2)):
+        add("u " + bad, "bad %d" % place)
+    # A character that a string cuts breaks at the string's end, whether the document ends there or the missing byte follows.
+    add("w 1 0c02e282", "0 refused 9 at 4")
+    add("w 1 0c02e282ac", "0 refused 9 at 4")
+    add("w 1 0c03e28241", "0 refused 9 at 4")
+    add("w 1 0c03e282ac", "1 / 12 0 0 0 0 2 3 0")
 
     # Sizes.
     for precision, scale, size in ((0, 0, 0), (65, 30, 30), (65, 0, 29), (30, 30, 14), (18, 9, 8), (10, 1, 5)):
@@ -883,14 +889,23 @@ UTF8 = re.compile(
 
 
 def utf8_cases():
-    """All of one and two bytes, and three and four from the bytes that matter, by RFC 3629's grammar."""
+    """All of one and two bytes, and three and four from the bytes that matter, by RFC 3629's grammar; the place by Python's decoder."""
     edge = (0x00, 0x7F, 0x80, 0x8F, 0x90, 0x9F, 0xA0, 0xBF, 0xC0, 0xC1, 0xC2, 0xDF, 0xE0, 0xE1, 0xEC, 0xED, 0xEE, 0xEF,
             0xF0, 0xF1, 0xF3, 0xF4, 0xF5, 0xFF)
     texts = [bytes((a,)) for a in range(256)] + [bytes((a, b)) for a in range(256) for b in edge]
     texts += [bytes((a, b, c)) for a in edge for b in edge for c in edge]
     chance = random.Random(3)
     texts += [bytes(chance.choice(edge[18:]) if i == 0 else chance.choice(edge[2:8]) for i in range(4)) for _ in range(8000)]
-    return [("u " + hexa(data), "utf8" if UTF8.fullmatch(data) else "bad") for data in texts]
+    return [("u " + hexa(data), "utf8" if UTF8.fullmatch(data) else "bad %d" % decoder_break(data)) for data in texts]
+
+
+def decoder_break(data):
+    """Where the decoder's fault is: at the byte that begins no character, else behind the bytes of one that it took."""
+    try:
+        data.decode("utf-8", "strict")
+    except UnicodeDecodeError as fault:
+        return fault.start if fault.reason == "invalid start byte" else fault.end
+    return -1
 
 
 class Encoder:

@@ -154,13 +154,40 @@ def read_length_field(document, start, end):
     raise Refused(8)
 
 
-def is_utf8(data):
-    # The two modules: RFC 3629 decides the text; Python's strict decoder follows it.
-    try:
-        data.decode("utf-8", "strict")
-    except UnicodeDecodeError:
-        return False
-    return True
+# RFC 3629, section 4: a row of byte ranges for each form that a character has.
+TAIL = (0x80, 0xBF)
+CHARACTERS = (
+    ((0x00, 0x7F),),
+    ((0xC2, 0xDF), TAIL),
+    ((0xE0, 0xE0), (0xA0, 0xBF), TAIL),
+    ((0xE1, 0xEC), TAIL, TAIL),
+    ((0xED, 0xED), (0x80, 0x9F), TAIL),
+    ((0xEE, 0xEF), TAIL, TAIL),
+    ((0xF0, 0xF0), (0x90, 0xBF), TAIL, TAIL),
+    ((0xF1, 0xF3), TAIL, TAIL, TAIL),
+    ((0xF4, 0xF4), (0x80, 0x8F), TAIL, TAIL),
+)
+
+
+def bytes_that_fit(row, data, at):
+    fit = 0
+    for (low, high), byte in zip(row, data[at:at + len(row)]):
+        if not low <= byte <= high:
+            break
+        fit += 1
+    return fit
+
+
+def text_break(data):
+    # Document 02, W5: the first byte that cannot begin or continue a character; the end where the last character is cut there; None for UTF-8.
+    at = 0
+    while at < len(data):
+        fits = [(bytes_that_fit(row, data, at), len(row)) for row in CHARACTERS]
+        whole = [length for fit, length in fits if fit == length]
+        if not whole:
+            return at + max(fit for fit, _ in fits)
+        at += whole[0]
+    return None
 
 
 # ---------------------------------------------------------------- scalars
@@ -416,14 +443,20 @@ def walk_root(document, room, events):
     walk_value(document, room, events, value, 0, 0, (0, 0), 0)
 
 
+def check_text(document, start, length):
+    # The walk: keys and strings must be UTF-8. Document 02, W5: 9 at the byte where one breaks, counted from the document's first.
+    place = text_break(document[start:start + length])
+    if place is not None:
+        raise WalkRefused(9, start + place)
+
+
 def walk_value(document, room, events, value, depth, position, key, place):
     # Refusal numbers, the walk at one path: after the value come string 9 and 12.
     if isinstance(value, Container):
         event = (value.kind, depth, position) + key + (value.start, value.size, value.count)
     else:
         if value.code == STRING:
-            if not is_utf8(document[value.start:value.start + value.length]):
-                raise WalkRefused(9, place)
+            check_text(document, value.start, value.length)
         event = (value.code, depth, position) + key + (value.start, value.length, value.extra)
     if len(events) >= room:
         raise WalkRefused(12, place)
@@ -449,14 +482,13 @@ def walk_children(document, room, events, container, depth):
 
 
 def walk_key(document, container, position):
-    # The walk: keys must be UTF-8; key faults have the key entry's place.
+    # The walk: keys must be UTF-8; a key's pointer fault has the key entry's place.
     place = key_entry_start(container, position)
     try:
         start, length = read_key(document, container, position)
     except Refused as refusal:
         raise WalkRefused(refusal.number, place)
-    if not is_utf8(document[start:start + length]):
-        raise WalkRefused(9, place)
+    check_text(document, start, length)
     return start, length
 
 
@@ -865,7 +897,8 @@ def answer_root_decimal(words):
 
 def answer_utf8(words):
     # ANSWERS.md: u BYTES.
-    return "utf8" if is_utf8(asked_bytes(words[0])) else "bad"
+    place = text_break(asked_bytes(words[0]))
+    return "utf8" if place is None else "bad %d" % place
 
 
 # Each request with the number of words that follow its name.

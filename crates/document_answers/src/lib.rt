@@ -5,6 +5,7 @@ use jsonb::Kind;
 use jsonb::Members;
 use jsonb::View;
 use output::put;
+use output::put_number;
 use output::put_what;
 use utf8::Utf8Check;
 use value_words::put_count;
@@ -20,7 +21,10 @@ pub fn put_root(out: &mut [u8], at: usize, doc: &[u8]) -> usize {
 pub fn put_utf8(out: &mut [u8], at: usize, text: &[u8]) -> usize {
     match utf8::utf8_check(text) {
         Utf8Check::Valid => put(out, at, b"utf8"),
-        Utf8Check::Bad(_) => put(out, at, b"bad"),
+        Utf8Check::Bad(p) => {
+            let at = put(out, at, b"bad ");
+            put_number(out, at, p as u64)
+        }
     }
 }
 

@@ -1,4 +1,4 @@
--- Document 01's examples that are marked (P): each row a question, and beside it what document 01 answers, or document 02 where it puts 01 right. A kind of question is a constructor
+-- Document 01's examples that are marked (P): each row a question, and beside it what document 01 answers, or document 02 where it changes that. A kind of question is a constructor
 -- of `Row`, and `asked` says what the definitions answer to it: a thing, nothing, or the number of the refusal.
 -- Assumes nothing.
 use Prim.Native.Nat.{ℕ}
@@ -132,6 +132,14 @@ pointed = 0x02 ∷ 0x01 ∷ 0x00 ∷ 0x0B ∷ 0x00 ∷ 0x07 ∷ 0x07 ∷ 0x00 �
 abbrev pub inlined : List ℕ
 inlined = 0x03 ∷ 0x01 ∷ 0x00 ∷ 0x00 ∷ 0x00 ∷ 0x0D ∷ 0x00 ∷ 0x00 ∷ 0x00 ∷ 0x07 ∷ 0xFF ∷ 0xFF ∷ 0xFF ∷ 0xFF ∷ []
 
+-- an object whose key is FF
+abbrev pub badKey : List ℕ
+badKey = 0x00 ∷ 0x01 ∷ 0x00 ∷ 0x0C ∷ 0x00 ∷ 0x0B ∷ 0x00 ∷ 0x01 ∷ 0x00 ∷ 0x04 ∷ 0x01 ∷ 0x00 ∷ 0xFF ∷ []
+
+-- a string of two bytes, E2 82, which begin the character E2 82 AC, over the byte behind it
+abbrev pub cut : ℕ → List ℕ
+cut b = 0x0C ∷ 0x02 ∷ 0xE2 ∷ 0x82 ∷ b ∷ []
+
 -- ---- events: the root of an array and its two elements; the root of an object and its member; an empty document's null
 abbrev pub arrayRoot : List ℕ
 arrayRoot = 2 ∷ 0 ∷ 0 ∷ 0 ∷ 0 ∷ 1 ∷ 10 ∷ 2 ∷ []
@@ -144,6 +152,9 @@ isMinusTwo = 5 ∷ 1 ∷ 1 ∷ 0 ∷ 0 ∷ 9 ∷ 2 ∷ 0 ∷ []
 
 abbrev pub objectRoot : List ℕ
 objectRoot = 0 ∷ 0 ∷ 0 ∷ 0 ∷ 0 ∷ 1 ∷ 17 ∷ 1 ∷ []
+
+abbrev pub keyedRoot : List ℕ
+keyedRoot = 0 ∷ 0 ∷ 0 ∷ 0 ∷ 0 ∷ 1 ∷ 12 ∷ 1 ∷ []
 
 abbrev pub isZoe : List ℕ
 isZoe = 12 ∷ 1 ∷ 0 ∷ 12 ∷ 1 ∷ 14 ∷ 4 ∷ 0 ∷ []
@@ -182,10 +193,14 @@ table =
     -- the array of true and -2, walked: three events; with room for two it is 12 at the entry of -2
     ∷ (walk trueAndMinusTwo 2048, lists (arrayRoot ∷ isTrue ∷ isMinusTwo ∷ []) (Done 3))
     ∷ (walk trueAndMinusTwo 2, lists (arrayRoot ∷ isTrue ∷ []) (Stopped 12 8 2))
-    -- the object of Zoë; a last byte that ends no character is 9 at the value's entry, a key's offset of 0A is 5 at the key's
+    -- the object of Zoë; a last byte that ends no character is 9 at that byte (document 02, W5), a key's offset of 0A is 5 at the key's entry
     ∷ (walk (zoe 0x0B) 2048, lists (objectRoot ∷ isZoe ∷ []) (Done 2))
-    ∷ (walk (zoeEnding 0x0B 0x22) 2048, lists (objectRoot ∷ []) (Stopped 9 9 1))
+    ∷ (walk (zoeEnding 0x0B 0x22) 2048, lists (objectRoot ∷ []) (Stopped 9 17 1))
     ∷ (walk (zoe 0x0A) 2048, lists (objectRoot ∷ []) (Stopped 5 5 1))
+    -- a key that is no character is 9 at its byte; a character that its text cuts is 9 at the text's end, whatever stands there
+    ∷ (walk badKey 2048, lists (keyedRoot ∷ []) (Stopped 9 12 1))
+    ∷ (walk (cut 0x04) 2048, lists [] (Stopped 9 4 0))
+    ∷ (walk (cut 0xAC) 2048, lists [] (Stopped 9 4 0))
     -- the empty document
     ∷ (walk [] 2048, lists (emptyNull ∷ []) (Done 1))
     ∷ []

@@ -2,7 +2,7 @@
 -- told by the value that its path was judged by.
 -- Assumes nothing.
 use mathlib.Core.Path.{_≡_, refl, sym, ap, _∙_}
-use mathlib.Core.Bool.{Bool, true, false, cond}
+use mathlib.Core.Bool.{Bool, cond}
 use mathlib.Core.List.{List, [], _∷_, _++_, map, map-append, append-nil}
 use Prim.Native.Nat.{ℕ, zero, suc, _+_, _-_, _≤_, _<_}
 use native.Mathlib.Omega.{arith}
@@ -15,8 +15,10 @@ use Rattle.value.specs.declared.Value.{Value}
 use Rattle.entry.specs.Entries.{placeAt}
 use Rattle.gate.specs.Said.{Said, says, nothing, refuses}
 use Rattle.events.specs.Events.{eventOf}
-use Rattle.paths.specs.Judged.{Stand, Judged, bad, good, spot, valueJudged, keyJudged, judged, node}
-use Rattle.events.specs.Text.{isText, isTextual}
+use Rattle.paths.specs.Judged.{Stand, Judged, bad, good, spot, textThen, valueJudged, keyJudged, judged, node}
+use Rattle.utf8.specs.declared.Utf8Check.{Utf8Check}
+use Rattle.utf8.specs.declared.Utf8Check.the-variants.{Valid, Bad}
+use Rattle.events.specs.Text.{textAt, valueText}
 use Rattle.events.specs.declared.Spot.{Spot}
 use Rattle.events.specs.Listing.{Listing, end, fault, event}
 use Rattle.paths.specs.Levels.{_then_, entries, entryStand, entryListing, children, listing}
@@ -83,24 +85,21 @@ module _ (d : List ℕ) (x : Item) where
 
 -- ---- what is below a path may be told by the value that stands there
 module _ (d : List ℕ) (p : ℕ) (f g : Value → Listing) where
+  -- below a text that breaks nothing is listed
+  node-text : (t : Utf8Check) (j : Judged) → node j p f ≡ node j p g → node (textThen t j) p f ≡ node (textThen t j) p g
+  node-text Valid j h = h
+  node-text (Bad q) j h = refl
+
   node-value : (s : Spot) (x : Said Value) → ((y : Value) → x ≡ says y → f y ≡ g y) → node (valueJudged d s x) p f ≡ node (valueJudged d s x) p g
-  node-value s (says y) h = go (isTextual d y)
-    where
-      go : (b : Bool) → node (cond b (good (eventOf s y) y) (bad 9 (s .place))) p f ≡ node (cond b (good (eventOf s y) y) (bad 9 (s .place))) p g
-      go true = ap (event (eventOf s y) p) (h y refl)
-      go false = refl
+  node-value s (says y) h = node-text (valueText d y) (good (eventOf s y) y) (ap (event (eventOf s y) p) (h y refl))
   node-value s nothing h = refl
   node-value s (refuses n) h = refl
 
   node-key : (depth i : ℕ) (s : Stand) (k : Said Span) → ((y : Value) → s .value ≡ says y → f y ≡ g y) →
       node (keyJudged d depth i s k) p f ≡ node (keyJudged d depth i s k) p g
-  node-key depth i s (says k) h = go (isText d k)
-    where
-      go : (b : Bool) →
-          node (cond b (valueJudged d (spot depth i (s .place) k (s .from)) (s .value)) (bad 9 (s .keyPlace))) p f
-          ≡ node (cond b (valueJudged d (spot depth i (s .place) k (s .from)) (s .value)) (bad 9 (s .keyPlace))) p g
-      go true = node-value (spot depth i (s .place) k (s .from)) (s .value) h
-      go false = refl
+  node-key depth i s (says k) h =
+      node-text (textAt d k) (valueJudged d (spot depth i (s .place) k (s .from)) (s .value))
+      (node-value (spot depth i (s .place) k (s .from)) (s .value) h)
   node-key depth i s nothing h = refl
   node-key depth i s (refuses n) h = refl
 

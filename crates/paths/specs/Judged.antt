@@ -1,16 +1,17 @@
 -- What is said of one path that is not too long: its event, or its first fault with its number and place. The order is document 01's: the key 5, the key 9,
--- the value, a string 9. A key's fault has the place of the key entry, any other that of the value entry.
+-- the value, a string 9. The place of a 9 is the byte at which the text breaks; of another fault it is the key entry's for a key's, else the value entry's.
 -- Assumes nothing.
 use Prim.Native.Nat.{ℕ}
-use mathlib.Core.Bool.{cond}
 use mathlib.Core.List.{List}
+use Rattle.utf8.specs.declared.Utf8Check.{Utf8Check}
+use Rattle.utf8.specs.declared.Utf8Check.the-variants.{Valid, Bad}
 use Rattle.gate.specs.Said.{Said, says, nothing, refuses}
 use Rattle.value.specs.declared.Span.{Span}
 use Rattle.value.specs.declared.Value.{Value}
 use Rattle.events.specs.declared.Event.{Event}
 use Rattle.events.specs.declared.Spot.{Spot}
 use Rattle.events.specs.Events.{eventOf}
-use Rattle.events.specs.Text.{isText, isTextual}
+use Rattle.events.specs.Text.{textAt, valueText}
 use Rattle.events.specs.Listing.{Listing, end, fault, event}
 
 -- what stands at a path: the places of its entries, its key, its value, and the value's first byte
@@ -28,15 +29,20 @@ pub data Judged : Type 0 where
 abbrev pub spot : ℕ → ℕ → ℕ → Span → ℕ → Spot
 spot depth i p k f = record { depth = depth; position = i; place = p; key = k; from = f }
 
+-- a text that breaks is 9 where it breaks; after one that does not comes the rest
+abbrev pub textThen : Utf8Check → Judged → Judged
+textThen Valid j = j
+textThen (Bad p) j = bad 9 p
+
 -- the value, then its text. Below a container's count there is no nothing
 abbrev pub valueJudged : List ℕ → Spot → Said Value → Judged
-valueJudged d s (says x) = cond (isTextual d x) (good (eventOf s x) x) (bad 9 (s .place))
+valueJudged d s (says x) = textThen (valueText d x) (good (eventOf s x) x)
 valueJudged d s nothing = bad 0 (s .place)
 valueJudged d s (refuses n) = bad n (s .place)
 
 -- the key, then its text, then the value
 abbrev pub keyJudged : List ℕ → ℕ → ℕ → Stand → Said Span → Judged
-keyJudged d depth i s (says k) = cond (isText d k) (valueJudged d (spot depth i (s .place) k (s .from)) (s .value)) (bad 9 (s .keyPlace))
+keyJudged d depth i s (says k) = textThen (textAt d k) (valueJudged d (spot depth i (s .place) k (s .from)) (s .value))
 keyJudged d depth i s nothing = bad 0 (s .keyPlace)
 keyJudged d depth i s (refuses n) = bad n (s .keyPlace)
 

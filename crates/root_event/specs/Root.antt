@@ -1,11 +1,13 @@
 -- The root's own path (document 01, 'The walk'): it has no key, its depth, position and place are 0, and its value starts past the document's type byte; the
--- empty document has none, and its null starts at 0. It is listed, or refused by what its value is refused with, or by 9 where it is a string that is no text.
+-- empty document has none, and its null starts at 0. It is listed, or refused at 0 by what its value is refused with, or by 9 where it is a string that breaks.
 -- Assumes nothing.
 use Prim.Native.Nat.{ℕ}
 use mathlib.Core.Bool.{cond}
 use mathlib.Core.List.{List}
 use lib.Dec.{eqb}
 use lib.ListN.{length}
+use Rattle.utf8.specs.declared.Utf8Check.{Utf8Check}
+use Rattle.utf8.specs.declared.Utf8Check.the-variants.{Valid, Bad}
 use Rattle.value.specs.declared.Span.{Span}
 use Rattle.value.specs.declared.Scalar.{Scalar}
 use Rattle.value.specs.declared.Scalar.the-variants as scalar
@@ -16,7 +18,7 @@ use Rattle.content.specs.declared.Read.the-variants as read
 use Rattle.jsonb.specs.Views.{rootRead}
 use Rattle.events.specs.declared.Spot.{Spot}
 use Rattle.events.specs.Events.{noKey, eventOf}
-use Rattle.events.specs.Text.{isTextual}
+use Rattle.events.specs.Text.{valueText}
 use Rattle.events.specs.Listing.{Listing, end, fault, event}
 
 -- the string that a value is; of any other value, no bytes
@@ -37,8 +39,13 @@ firstByte d = cond (eqb (length d) 0) 0 1
 abbrev pub spotOf : List ℕ → Spot
 spotOf d = record { depth = 0; position = 0; place = 0; key = noKey; from = firstByte d }
 
+-- a text that breaks is 9 where it breaks
+abbrev pub textNode : Utf8Check → Listing → Listing
+textNode Valid l = l
+textNode (Bad p) l = fault 9 p
+
 unfoldable pub valueNode : List ℕ → Value → Listing
-valueNode d x = cond (isTextual d x) (event (eventOf (spotOf d) x) 0 end) (fault 9 0)
+valueNode d x = textNode (valueText d x) (event (eventOf (spotOf d) x) 0 end)
 
 abbrev pub readNode : List ℕ → Read → Listing
 readNode d (read.Value x) = valueNode d x

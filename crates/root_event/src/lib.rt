@@ -3,6 +3,7 @@ use content::Read;
 use events::Event;
 use events::Spot;
 use events::Walked;
+use texts::Utf8Check;
 use value::Scalar;
 use value::Span;
 use value::Value;
@@ -78,14 +79,15 @@ fn put_value(out: &mut [u32], n: usize, s: Spot, x: Value) -> Walked
     Walked::Done { count: n + 1 }
 }
 
-// Lists the root's value: 9 for a string that is no text, then 12 where there is no room.
+// Lists the root's value: 9 where a string breaks, then 12 where there is no room.
 fn list_value(doc: &[u8], out: &mut [u32], x: Value) -> Walked
     ensures { λ w. ⌜ lay (valueNode (now (doc .entry)) x) (now (out .entry)) 0 ≡ laid w (now (out .exit)) ⌝ }
 {
-    if !texts::is_text(doc, string_of(x)) {
+    let text = texts::text_at(doc, string_of(x));
+    if let Utf8Check::Bad(place) = text {
         return Walked::Stopped {
             number: refusal::UTF8,
-            place: 0,
+            place,
             count: 0,
         };
     }

@@ -2,7 +2,7 @@
 -- Assumes nothing.
 use Prim.Native.Nat.{ℕ, _+_, _-_, _≤_, _<_}
 use mathlib.Core.Path.{_≡_}
-use mathlib.Core.Bool.{true, cond}
+use mathlib.Core.Bool.{cond}
 use mathlib.Core.List.{List}
 use lib.Dec.{ltb, eqb}
 use lib.ListN.{length}
@@ -23,7 +23,8 @@ use Rattle.header.specs.declared.Header.{Header}
 use Rattle.header.specs.declared.Header.the-variants as header
 use Rattle.entry.specs.Entries.{endOf, entryOf}
 use Rattle.events.specs.Events.{span, bytesOf, scalarPart}
-use Rattle.events.specs.Text.{isText, scalarText}
+use Rattle.events.specs.Text.{textAt, scalarText}
+use Rattle.utf8.specs.declared.Utf8Check.the-variants.{Valid}
 use Rattle.sight.specs.Sights.{sight, refusedSight, sightOf, typedStartBy}
 use Rattle.sight.specs.declared.Sight.{Sight}
 
@@ -65,7 +66,7 @@ entrySight d v p y = sightOf (entryOf d v y (p + 1)) (typedStartBy d v (p + 1) y
 -- ---- what a walk may rely on
 -- a scalar's code is none of a container's, and the code of strings alone says that the bytes are text
 abbrev pub SoundScalar : JsonbType → Scalar → Type 0
-SoundScalar t s = (3 < typeCode t) × ((d : List ℕ) (from : ℕ) → cond (eqb (typeCode t) 12) (isText d (scalarPart t s from)) true ≡ scalarText d s)
+SoundScalar t s = (3 < typeCode t) × ((d : List ℕ) (from : ℕ) → cond (eqb (typeCode t) 12) (textAt d (scalarPart t s from)) Valid ≡ scalarText d s)
 
 abbrev pub SoundValue : Value → Type 0
 SoundValue (value.Scalar t s) = SoundScalar t s

@@ -1,15 +1,19 @@
--- The machine and the grammar agree, and an answer is a verdict by other names: so what `checked` answers tells. Two answers that tell are one.
+-- The machine and the grammar agree, and an answer is a verdict by other names: so what `checked` answers tells. Two answers that tell are one. Counted from
+-- elsewhere, a verdict's place moves and nothing else, and so does an answer's.
 -- Assumes nothing.
-use Prim.Native.Nat.{ℕ}
+use Prim.Native.Nat.{ℕ, _+_, _≤_}
 use mathlib.Core.Path.{_≡_, refl, sym, ap, _∙_, subst}
-use mathlib.Core.List.{List}
+use mathlib.Core.List.{List, _++_}
+use native.Mathlib.Omega.{arith}
+use lib.ListN.{length, length-append}
 use Rattle.rfc3629.specs.Grammar.{Utf8, Breaks}
-use Rattle.rfc3629.specs.Machine.{Verdict, ok, bad, verdict}
+use Rattle.rfc3629.specs.Machine.{Verdict, ok, bad, verdict, verdictFrom, plus}
 use Rattle.rfc3629.proofs.Grammar as grammar
 use Rattle.rfc3629.proofs.Place as place
+use Rattle.rfc3629.proofs.Counted.{counted}
 use Rattle.utf8.specs.declared.Utf8Check.{Utf8Check}
 use Rattle.utf8.specs.declared.Utf8Check.the-variants.{Valid, Bad}
-use Rattle.utf8.specs.Answer.{Tells, answer, checked}
+use Rattle.utf8.specs.Answer.{Tells, answer, checked, countedFrom}
 
 -- an answer names its verdict
 named : Utf8Check → Verdict
@@ -43,3 +47,20 @@ one-answer (Bad p) q t u = sym (u .broken p .1 (t .broken p .0 refl))
 -- what utf8_check promises follows from the verdict
 pub told : {s : List ℕ} (v : Verdict) → verdict s ≡ v → (answer v ≡ checked s) × Tells s (answer v)
 told {s} v e = (ap answer (sym e), subst (λ (w : Verdict). Tells s (answer w)) e (tells s))
+
+-- ---- the place shifts with the start
+pub shifted : (k : ℕ) (s : List ℕ) → answer (verdictFrom k s) ≡ countedFrom k (checked s)
+shifted k s = ap answer (counted k s) ∙ go (verdict s)
+  where
+    go : (v : Verdict) → answer (plus k v) ≡ countedFrom k (answer v)
+    go ok = refl
+    go (bad p) = refl
+
+-- bytes break at one of them or at their end
+pub breaks-within : {s : List ℕ} {p : ℕ} → Breaks s p → p ≤ length s
+breaks-within {s} {p} b =
+    let e : length s ≡ length (b .before ++ (b .begun ++ b .rest)) = ap length (b .split) in
+    let f : length (b .before ++ (b .begun ++ b .rest)) ≡ length (b .before) + length (b .begun ++ b .rest) =
+    length-append (b .before) (b .begun ++ b .rest) in
+    let g : length (b .begun ++ b .rest) ≡ length (b .begun) + length (b .rest) = length-append (b .begun) (b .rest) in
+    omega (arith, b .place)

@@ -1,6 +1,6 @@
 -- What utf8_check answers. `Tells` is the promise, by the grammar of RFC 3629, section 4; `checked` is the same as a function, the machine's verdict.
 -- Assumes nothing.
-use Prim.Native.Nat.{ℕ}
+use Prim.Native.Nat.{ℕ, _+_}
 use mathlib.Core.Path.{_≡_}
 use mathlib.Core.List.{List}
 use Rattle.rfc3629.specs.Grammar.{Utf8, Breaks}
@@ -20,3 +20,8 @@ answer (bad p) = Bad p
 
 abbrev pub checked : List ℕ → Utf8Check
 checked s = answer (verdict s)
+
+-- an answer about bytes that start at k, with its place counted from where k is
+abbrev pub countedFrom : ℕ → Utf8Check → Utf8Check
+countedFrom k Valid = Valid
+countedFrom k (Bad p) = Bad (k + p)

@@ -8,6 +8,8 @@ use mathlib.Core.Bool.{Bool, true, false, cond}
 use mathlib.Core.List.{List}
 use Prim.Native.Nat.{ℕ, _+_}
 use lib.Dec.{ltb}
+use Rattle.utf8.specs.declared.Utf8Check.{Utf8Check}
+use Rattle.utf8.specs.declared.Utf8Check.the-variants.{Valid, Bad}
 use Rattle.value.specs.declared.Span.{Span}
 use Rattle.value.specs.declared.View.{View}
 use Rattle.value.specs.declared.Value.{Value}
@@ -20,8 +22,8 @@ use Rattle.events.specs.declared.Spot.{Spot}
 use Rattle.events.specs.declared.Walked.{Walked}
 use Rattle.events.specs.declared.Walked.the-variants.{Done, Stopped}
 use Rattle.events.specs.Events.{eventOf}
-use Rattle.events.specs.Text.{isText, isTextual}
-use Rattle.paths.specs.Judged.{Stand, Judged, bad, good, spot, valueJudged, keyJudged, judged, node, childless}
+use Rattle.events.specs.Text.{textAt, valueText}
+use Rattle.paths.specs.Judged.{Stand, Judged, good, spot, textThen, valueJudged, keyJudged, judged, node, childless}
 use Rattle.events.specs.Listing.{Listing, end, fault, event}
 use Rattle.paths.specs.Levels.{_then_, entries, children, listing}
 use Rattle.walk.specs.Course.{leadsBy, leadsOf, leadsTo}
@@ -64,14 +66,17 @@ below l d (read.Value x) = children l d x
 below l d (read.Refused n) = end
 
 module _ (l : ℕ) (d : List ℕ) (p : ℕ) where
+  -- a text that breaks comes before all that is below
+  by-text : (t : Utf8Check) (j : Judged) (b : Listing) → node j p (children l d) ≡ node j p childless then b →
+      node (textThen t j) p (children l d) ≡ node (textThen t j) p childless then b
+  unfolding _then_
+  by-text Valid j b h = h
+  by-text (Bad q) j b h = refl
+
   -- a path that is judged by a value that was read, and by its key
   by-value : (s : Spot) (r : Read) → node (valueJudged d s (readSaid r)) p (children l d) ≡ node (valueJudged d s (readSaid r)) p childless then below l d r
   unfolding _then_ below
-  by-value s (read.Value x) = go (isTextual d x)
-    where
-      go : (b : Bool) → node (cond b (good (eventOf s x) x) (bad 9 (s .place))) p (children l d) ≡ node (cond b (good (eventOf s x) x) (bad 9 (s .place))) p childless then children l d x
-      go true = refl
-      go false = refl
+  by-value s (read.Value x) = by-text (valueText d x) (good (eventOf s x) x) (children l d x) refl
   by-value s (read.Refused n) = refl
 
   module _ (depth i : ℕ) (s : Stand) (r : Read) (e : s .value ≡ readSaid r) where
@@ -80,14 +85,11 @@ module _ (l : ℕ) (d : List ℕ) (p : ℕ) where
 
     by-key : (k : Said Span) → node (keyJudged d depth i s k) p (children l d) ≡ node (keyJudged d depth i s k) p childless then below l d r
     unfolding _then_
-    by-key (says k) = go (isText d k)
-      where
-        go : (b : Bool) → node (cond b (at k (s .value)) (bad 9 (s .keyPlace))) p (children l d) ≡ node (cond b (at k (s .value)) (bad 9 (s .keyPlace))) p childless then below l d r
-        go true =
-            ap (λ (x : Said Value). node (at k x) p (children l d)) e
-            ∙ by-value (spot depth i (s .place) k (s .from)) r
-            ∙ ap (λ (x : Said Value). node (at k x) p childless then below l d r) (sym e)
-        go false = refl
+    by-key (says k) =
+        by-text (textAt d k) (at k (s .value)) (below l d r)
+        (ap (λ (x : Said Value). node (at k x) p (children l d)) e
+        ∙ by-value (spot depth i (s .place) k (s .from)) r
+        ∙ ap (λ (x : Said Value). node (at k x) p childless then below l d r) (sym e))
     by-key nothing = refl
     by-key (refuses n) = refl
 

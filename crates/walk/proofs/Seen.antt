@@ -1,7 +1,7 @@
 -- An event that is laid down in two parts is the event, and what it says is read back.
 --     put-parts                what is seen and then the path is the event
 --     put-code and others      the numbers of an event that was put down
---     seen-text                what is seen of a value is text exactly when the value is
+--     seen-value               what is seen of a value is text exactly when the value is
 --     seen-stopped, seen-done  a value that was judged by what is seen of it: not listed, or listed
 --     seen-leads               what the event's value leads to
 --     seen-last                such an event was tested
@@ -10,15 +10,17 @@ use mathlib.Core.Path.{_≡_, refl, sym, ap, subst, _∙_}
 use mathlib.Core.Logic.{_≢_}
 use mathlib.Core.Bool.{Bool, true, false, cond}
 use mathlib.Core.List.{List, [], _∷_}
-use Prim.Native.Nat.{ℕ, suc, _+_, _*_, _-_, _%_, _≤_, _<_}
+use Prim.Native.Nat.{ℕ, _+_, _*_, _-_, _%_, _≤_, _<_}
 use native.Mathlib.Omega.{arith}
 use lib.Dec.{ltb, eqb}
 use lib.ListN.{length, getD, set, length-set}
-use lib.Seq.{sets, length-sets, getD-set-same, getD-set-other, set-comm}
-use borrow.Author.Tests.{le-ltb, lt-ltb, ltb-true, ltb-false, eqb-true, eq-eqb, ne-eqb}
+use lib.Seq.{length-sets, getD-set-same, getD-set-other, set-comm}
+use borrow.Author.Tests.{lt-ltb, ltb-true, eq-eqb, ne-eqb}
 use Rattle.layout.specs.declared.Kind.{Kind}
-use Rattle.layout.proofs.Cond.{yes, no}
+use Rattle.layout.proofs.Cond.{yes}
 use Rattle.codes.specs.Types.{codeOf as typeCode}
+use Rattle.utf8.specs.declared.Utf8Check.{Utf8Check}
+use Rattle.utf8.specs.declared.Utf8Check.the-variants.{Valid, Bad}
 use Rattle.value.specs.declared.Span.{Span}
 use Rattle.value.specs.declared.View.{View}
 use Rattle.value.specs.declared.Scalar.{Scalar}
@@ -28,21 +30,21 @@ use Rattle.content.specs.declared.Read.{Read}
 use Rattle.content.specs.declared.Read.the-variants as read
 use Rattle.gate.specs.Said.{readSaid}
 use Rattle.events.specs.declared.Event.{Event}
+use Rattle.events.specs.declared.Walked.{Walked}
 use Rattle.events.specs.declared.Walked.the-variants.{Done, Stopped}
 use Rattle.events.specs.Events.{span, numbers, wide, kindCode, codeOf, partOf, extraOf, eventOf}
-use Rattle.events.specs.Text.{isText, isTextual}
+use Rattle.events.specs.Text.{textAt, valueText}
 use Rattle.events.specs.Lay.{Laid, laid, lay, put, room}
 use Rattle.events.proofs.Cases.{run-of-stores}
 use Rattle.sight.specs.declared.Sight.{Sight}
 use Rattle.sight.specs.Sights.{sightOf}
 use Rattle.sight.specs.Course.{Sound, SoundValue}
-use Rattle.paths.specs.Judged.{bad, good, spot, valueJudged, node, childless}
+use Rattle.paths.specs.Judged.{good, spot, textThen, valueJudged, node, childless}
 use Rattle.walk.specs.Course.{leadsBy, leadsOf, leadsTo}
 use Rattle.walk.specs.Tested.{Last}
-use Rattle.walk.specs.Seen.{seenText, seenNumber, seenEvent, putSeen, putPath, seenLeaves, leadsIn}
+use Rattle.walk.specs.Seen.{seenText, textStops, seenOwn, seenEvent, putSeen, putPath, leadsIn}
 use Rattle.walk.specs.declared.Leads.{Leads}
-use Rattle.walk.specs.declared.Leads.the-variants.{Array, Object, Nothing}
-use Rattle.paths.proofs.Laid.{room-fits}
+use Rattle.walk.specs.declared.Leads.the-variants.{Nothing}
 
 -- ---- an event in two parts
 -- a store goes before three others
@@ -158,7 +160,11 @@ module _ (out : List ℕ) (n : ℕ) (e : Event) (h : 8 * n + 8 ≤ length out) w
       ∙ other upto0 (at 1) (8 * n) (e .depth) (λ q. omega arith)
       ∙ getD-set-same out (8 * n) (e .code) 0 (omega arith))
 
--- ---- what is seen of a value is text exactly when the value is
+-- ---- no walk both stops and is done
+pub never : {A : Type 0} {f p n m : ℕ} → Stopped f p n ≡ Done m → A
+never e = let z : _≡_ {A = ℕ} 0 1 = cc in absurd (omega arith)
+
+-- ---- what is seen of a value is text exactly when the value is, and breaks where it breaks
 no-string : (k : Kind) → eqb (kindCode k) 12 ≡ false
 unfolding kindCode
 no-string k = go (k .object) (k .large)
@@ -169,73 +175,76 @@ no-string k = go (k .object) (k .large)
     go false true = refl
     go false false = refl
 
-seen-value : (d : List ℕ) (from : ℕ) (x : Value) → SoundValue x → seenText d (sightOf (read.Value x) from) ≡ isTextual d x
+seen-value : (d : List ℕ) (from : ℕ) (x : Value) → SoundValue x → seenText d (sightOf (read.Value x) from) ≡ valueText d x
 unfolding seenText
 seen-value d from (value.Scalar t s) h = h .1 d from
-seen-value d from (value.Container v) h = ap (λ (b : Bool). cond b (isText d (span (v .start) (v .size))) true) (no-string (v .kind))
+seen-value d from (value.Container v) h = ap (λ (b : Bool). cond b (textAt d (span (v .start) (v .size))) Valid) (no-string (v .kind))
 
--- ---- a value that was read and is judged by what is seen of it; f is the number as the callee gives it
+-- ---- a value that was read and is judged by what is seen of it; w is how its listing ends as the callee gives it
 module _ (d out : List ℕ) (n depth i p from : ℕ) (k : Span) where
   abbrev judgedAs : Read → Laid
   judgedAs r = lay (node (valueJudged d (spot depth i p k from) (readSaid r)) p childless) out n
 
-  abbrev by : Value → Bool → Bool → Laid
-  by x text fits =
-      cond text (cond fits (laid (Done (n + 1)) (put out n (eventOf (spot depth i p k from) x))) (laid (Stopped 12 p n) out)) (laid (Stopped 9 p n) out)
+  abbrev ownBy : Utf8Check → Bool → Walked
+  ownBy t fits = textStops n t (cond fits (Done (n + 1)) (Stopped 12 p n))
 
-  value-by : (x : Value) → judgedAs (read.Value x) ≡ by x (isTextual d x) (ltb n (room out))
+  -- what a value is laid to, by how its listing ends
+  abbrev laidAs : Value → Walked → Laid
+  laidAs x (Done m) = laid (Done m) (put out n (eventOf (spot depth i p k from) x))
+  laidAs x (Stopped f q m) = laid (Stopped f q m) out
+
+  value-by : (x : Value) → judgedAs (read.Value x) ≡ laidAs x (ownBy (valueText d x) (ltb n (room out)))
   unfolding lay
-  value-by x = go (isTextual d x)
+  value-by x = go (valueText d x) (ltb n (room out)) refl
     where
-      go : (b : Bool) → lay (node (cond b (good (eventOf (spot depth i p k from) x) x) (bad 9 p)) p childless) out n ≡ by x b (ltb n (room out))
-      go true = refl
-      go false = refl
+      fit : (b : Bool) → cond b (laidAs x (Done (n + 1))) (laidAs x (Stopped 12 p n)) ≡ laidAs x (cond b (Done (n + 1)) (Stopped 12 p n))
+      fit true = refl
+      fit false = refl
 
-  abbrev numberBy : Bool → Bool → ℕ
-  numberBy text fits = cond text (cond fits 0 12) 9
+      go : (t : Utf8Check) (b : Bool) → ltb n (room out) ≡ b →
+          lay (node (textThen t (good (eventOf (spot depth i p k from) x) x)) p childless) out n ≡ laidAs x (ownBy t b)
+      go Valid b e = ap (λ (c : Bool). cond c (laidAs x (Done (n + 1))) (laidAs x (Stopped 12 p n))) e ∙ fit b
+      go (Bad q) b e = refl
 
-  number-by : (x : Value) → SoundValue x → seenNumber d (sightOf (read.Value x) from) out n ≡ numberBy (isTextual d x) (ltb n (room out))
-  unfolding seenNumber
-  number-by x h = ap (λ (b : Bool). numberBy b (ltb n (room out))) (seen-value d from x h)
+  own-value : (x : Value) → SoundValue x → seenOwn d (sightOf (read.Value x) from) p out n ≡ ownBy (valueText d x) (ltb n (room out))
+  unfolding seenOwn
+  own-value x h = ap (λ (t : Utf8Check). ownBy t (ltb n (room out))) (seen-value d from x h)
 
-  number-refused : (m : ℕ) → (m ≡ 0 → ⊥) → seenNumber d (sightOf (read.Refused m) from) out n ≡ m
-  unfolding seenNumber
-  number-refused m h = ap (λ (b : Bool). cond b (cond (seenText d (sightOf (read.Refused m) from)) (cond (ltb n (room out)) 0 12) 9) m) (ne-eqb m 0 h)
+  own-refused : (m : ℕ) → (m ≡ 0 → ⊥) → seenOwn d (sightOf (read.Refused m) from) p out n ≡ Stopped m p n
+  unfolding seenOwn
+  own-refused m h = ap (λ (b : Bool). cond b (ownBy (seenText d (sightOf (read.Refused m) from)) (ltb n (room out))) (Stopped m p n)) (ne-eqb m 0 h)
 
   -- not listed
-  pub seen-stopped : (r : Read) → Sound r → {f : ℕ} → f ≡ seenNumber d (sightOf r from) out n → (f ≡ 0 → ⊥) → judgedAs r ≡ laid (Stopped f p n) out
+  pub seen-stopped : (r : Read) → Sound r → {w : Walked} {f q m : ℕ} → w ≡ seenOwn d (sightOf r from) p out n → w ≡ Stopped f q m → judgedAs r ≡ laid w out
   unfolding lay
-  seen-stopped (read.Value x) h {f} fe z = value-by x ∙ go (isTextual d x) (ltb n (room out)) (fe ∙ number-by x h)
-    where
-      go : (a b : Bool) → f ≡ numberBy a b → by x a b ≡ laid (Stopped f p n) out
-      go true true e = absurd (z e)
-      go true false e = ap (λ (g : ℕ). laid (Stopped g p n) out) (sym e)
-      go false b e = ap (λ (g : ℕ). laid (Stopped g p n) out) (sym e)
-  seen-stopped (read.Refused m) h {f} fe z = ap (λ (g : ℕ). laid (Stopped g p n) out) (sym (fe ∙ number-refused m h))
+  seen-stopped (read.Value x) h we ws = value-by x ∙ ap (laidAs x) (sym (own-value x h) ∙ sym we ∙ ws) ∙ ap (λ (v : Walked). laid v out) (sym ws)
+  seen-stopped (read.Refused m) h we ws = ap (λ (v : Walked). laid v out) (sym (we ∙ own-refused m h))
 
   -- listed: there was room, and the value is text
-  pub record Seen (r : Read) : Type 0 where
+  pub record Seen (r : Read) (w : Walked) : Type 0 where
     pub value : Value
     pub read : r ≡ read.Value value
-    pub text : isTextual d value ≡ true
+    pub text : valueText d value ≡ Valid
     pub fits : n < room out
+    pub ends : w ≡ Done (n + 1)
     pub listed : judgedAs r ≡ laid (Done (n + 1)) (put out n (seenEvent depth i k (sightOf r from)))
 
-  pub seen-done : (r : Read) → Sound r → {f : ℕ} → f ≡ seenNumber d (sightOf r from) out n → f ≡ 0 → Seen r
-  seen-done (read.Value x) h {f} fe z = go (isTextual d x) (ltb n (room out)) refl refl (sym z ∙ fe ∙ number-by x h)
+  pub seen-done : (r : Read) → Sound r → {w : Walked} {m : ℕ} → w ≡ seenOwn d (sightOf r from) p out n → w ≡ Done m → Seen r w
+  seen-done (read.Value x) h {w} {m} we wd = go (valueText d x) (ltb n (room out)) refl refl (we ∙ own-value x h)
     where
-      go : (a b : Bool) → isTextual d x ≡ a → ltb n (room out) ≡ b → _≡_ {A = ℕ} 0 (numberBy a b) → Seen (read.Value x)
-      go true true t u e =
+      go : (t : Utf8Check) (b : Bool) → valueText d x ≡ t → ltb n (room out) ≡ b → w ≡ ownBy t b → Seen (read.Value x) w
+      go Valid true u v e =
           record {
             value = x;
             read = refl;
-            text = t;
-            fits = ltb-true n (room out) u;
-            listed = value-by x ∙ ap (λ (c : Bool). by x c (ltb n (room out))) t ∙ ap (by x true) u;
+            text = u;
+            fits = ltb-true n (room out) v;
+            ends = e;
+            listed = value-by x ∙ ap (laidAs x) (sym (own-value x h) ∙ sym we ∙ e);
           }
-      go true false t u e = absurd (omega arith)
-      go false b t u e = absurd (omega arith)
-  seen-done (read.Refused m) h {f} fe z = absurd (h (sym (number-refused m h) ∙ sym fe ∙ z))
+      go Valid false u v e = never (sym e ∙ wd)
+      go (Bad q) b u v e = never (sym e ∙ wd)
+  seen-done (read.Refused m) h we wd = never (sym (we ∙ own-refused m h) ∙ wd)
 
 -- ---- what an event that was put down leads to
 -- by its numbers
@@ -275,7 +284,7 @@ put-length : (out : List ℕ) (n : ℕ) (e : Event) → length (put out n e) ≡
 unfolding put
 put-length out n e = length-sets out (wide * n) (numbers e)
 
-module _ (d out : List ℕ) (n depth i from : ℕ) (k : Span) (x : Value) (h : SoundValue x) (t : isTextual d x ≡ true) (kt : isText d k ≡ true) (f : 8 * n + 8 ≤ length out) where
+module _ (d out : List ℕ) (n depth i from : ℕ) (k : Span) (x : Value) (h : SoundValue x) (t : valueText d x ≡ Valid) (kt : textAt d k ≡ Valid) (f : 8 * n + 8 ≤ length out) where
   abbrev e : Event
   e = seenEvent depth i k (sightOf (read.Value x) from)
 
@@ -285,18 +294,18 @@ module _ (d out : List ℕ) (n depth i from : ℕ) (k : Span) (x : Value) (h : S
   there : 8 * (n + 1) - 8 ≡ 8 * n
   there = omega arith
 
-  key-text : isText d (span (getD o (8 * n + 3) 0) (getD o (8 * n + 4) 0)) ≡ true
+  key-text : textAt d (span (getD o (8 * n + 3) 0) (getD o (8 * n + 4) 0)) ≡ Valid
   key-text =
-      ap (λ (a : ℕ). isText d (span a (getD o (8 * n + 4) 0))) (put-key-start out n e f)
-      ∙ ap (λ (a : ℕ). isText d (span (k .start) a)) (put-key-len out n e f)
+      ap (λ (a : ℕ). textAt d (span a (getD o (8 * n + 4) 0))) (put-key-start out n e f)
+      ∙ ap (λ (a : ℕ). textAt d (span (k .start) a)) (put-key-len out n e f)
       ∙ kt
 
   -- a value that is text and has the code of strings is a string that is text
-  value-text : getD o (8 * n) 0 ≡ 12 → isText d (span (getD o (8 * n + 5) 0) (getD o (8 * n + 6) 0)) ≡ true
+  value-text : getD o (8 * n) 0 ≡ 12 → textAt d (span (getD o (8 * n + 5) 0) (getD o (8 * n + 6) 0)) ≡ Valid
   unfolding seenText
   value-text q =
-      ap (λ (a : ℕ). isText d (span a (getD o (8 * n + 6) 0))) (put-start out n e f)
-      ∙ ap (λ (a : ℕ). isText d (span (partOf x from .start) a)) (put-len out n e f)
+      ap (λ (a : ℕ). textAt d (span a (getD o (8 * n + 6) 0))) (put-start out n e f)
+      ∙ ap (λ (a : ℕ). textAt d (span (partOf x from .start) a)) (put-len out n e f)
       ∙ yes _ (eq-eqb (codeOf x) 12 (sym (put-code out n e f) ∙ q)) refl
       ∙ seen-value d from x h
       ∙ t
@@ -306,11 +315,11 @@ module _ (d out : List ℕ) (n depth i from : ℕ) (k : Span) (x : Value) (h : S
       record {
         some = omega arith;
         room = omega (arith, put-length out n e);
-        key = ap (λ (a : ℕ). isText d (span (getD o (a + 3) 0) (getD o (a + 4) 0))) there ∙ key-text;
-        text = λ q. ap (λ (a : ℕ). isText d (span (getD o (a + 5) 0) (getD o (a + 6) 0))) there ∙ value-text (ap (λ (a : ℕ). getD o a 0) (sym there) ∙ q);
+        key = ap (λ (a : ℕ). textAt d (span (getD o (a + 3) 0) (getD o (a + 4) 0))) there ∙ key-text;
+        text = λ q. ap (λ (a : ℕ). textAt d (span (getD o (a + 5) 0) (getD o (a + 6) 0))) there ∙ value-text (ap (λ (a : ℕ). getD o a 0) (sym there) ∙ q);
       }
 
-pub seen-last : (d out : List ℕ) (n depth i from : ℕ) (k : Span) (r : Read) → Sound r → {x : Value} → r ≡ read.Value x → isTextual d x ≡ true → isText d k ≡ true →
+pub seen-last : (d out : List ℕ) (n depth i from : ℕ) (k : Span) (r : Read) → Sound r → {x : Value} → r ≡ read.Value x → valueText d x ≡ Valid → textAt d k ≡ Valid →
     8 * n + 8 ≤ length out → Last d (put out n (seenEvent depth i k (sightOf r from))) (n + 1)
 seen-last d out n depth i from k r h {x} re t kt f =
     subst (λ (y : Read). Last d (put out n (seenEvent depth i k (sightOf y from))) (n + 1)) (sym re)

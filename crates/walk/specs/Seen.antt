@@ -1,15 +1,18 @@
 -- An event in two parts, as the code lays it down: what is seen of the value, and then the path. No public promise rests on it.
 -- Assumes nothing.
 use Prim.Native.Nat.{ℕ, _+_, _*_, _%_}
-use mathlib.Core.Bool.{Bool, true, cond}
-use mathlib.Core.List.{List, [], _∷_}
+use mathlib.Core.Bool.{cond}
+use mathlib.Core.List.{List}
 use lib.Dec.{ltb, eqb}
 use lib.ListN.{getD, set}
+use Rattle.utf8.specs.declared.Utf8Check.{Utf8Check}
+use Rattle.utf8.specs.declared.Utf8Check.the-variants.{Valid, Bad}
 use Rattle.value.specs.declared.Span.{Span}
 use Rattle.content.specs.Reading.{kind, view}
 use Rattle.events.specs.declared.Event.{Event}
-use Rattle.events.specs.declared.Walked.the-variants.{Stopped}
-use Rattle.events.specs.Text.{isText}
+use Rattle.events.specs.declared.Walked.{Walked}
+use Rattle.events.specs.declared.Walked.the-variants.{Done, Stopped}
+use Rattle.events.specs.Text.{textAt}
 use Rattle.events.specs.Lay.{room}
 use Rattle.sight.specs.declared.Sight.{Sight}
 use Rattle.walk.specs.Course.{leadsBy}
@@ -18,12 +21,18 @@ use Rattle.walk.specs.declared.Leads.the-variants.{Nothing}
 use Rattle.walk.specs.declared.Child.{Child}
 
 -- of what is seen, strings alone are text: 12 is their type code
-unfoldable pub seenText : List ℕ → Sight → Bool
-seenText d x = cond (eqb (x .code) 12) (isText d (x .part)) true
+unfoldable pub seenText : List ℕ → Sight → Utf8Check
+seenText d x = cond (eqb (x .code) 12) (textAt d (x .part)) Valid
 
--- the value's refusal, then a string's 9, then 12 where there is no room; or 0
-unfoldable pub seenNumber : List ℕ → Sight → List ℕ → ℕ → ℕ
-seenNumber d x out n = cond (eqb (x .refusal) 0) (cond (seenText d x) (cond (ltb n (room out)) 0 12) 9) (x .refusal)
+-- a text that breaks stops a walk where it breaks, after n events; any other lets it end as it does
+abbrev pub textStops : ℕ → Utf8Check → Walked → Walked
+textStops n Valid w = w
+textStops n (Bad q) w = Stopped 9 q n
+
+-- how the listing of what is seen at the place p ends: at the value's refusal, then where a string breaks, then at 12 where there is no room
+unfoldable pub seenOwn : List ℕ → Sight → ℕ → List ℕ → ℕ → Walked
+seenOwn d x p out n =
+    cond (eqb (x .refusal) 0) (textStops n (seenText d x) (cond (ltb n (room out)) (Done (n + 1)) (Stopped 12 p n))) (Stopped (x .refusal) p n)
 
 -- the event that shows it at the end of a path
 abbrev pub seenEvent : ℕ → ℕ → Span → Sight → Event
@@ -36,9 +45,10 @@ putSeen out n x = set (set (set (set out (8 * n) (x .code)) (8 * n + 5) (x .part
 unfoldable pub putPath : List ℕ → ℕ → ℕ → ℕ → Span → List ℕ
 putPath out n depth i k = set (set (set (set out (8 * n + 1) depth) (8 * n + 2) i) (8 * n + 3) (k .start)) (8 * n + 4) (k .len)
 
--- what is left after a number of the listing
-unfoldable pub seenLeaves : ℕ → Sight → List ℕ → ℕ → List ℕ
-seenLeaves f x out n = cond (eqb f 0) (putSeen out n x) out
+-- what is left where its listing ends so
+abbrev pub seenLeaves : Walked → Sight → List ℕ → ℕ → List ℕ
+seenLeaves (Done m) x out n = putSeen out n x
+seenLeaves (Stopped f q m) x out n = out
 
 -- what the value of event n leads to: the codes 0 to 3 are containers, below 2 objects, and odd ones are large
 unfoldable pub leadsIn : List ℕ → ℕ → Leads
@@ -48,5 +58,5 @@ leadsIn out n =
     (ltb (getD out (8 * n) 0) 2))
 
 -- a child that was not listed
-abbrev pub stoppedAt : ℕ → ℕ → ℕ → Child
-stoppedAt f p n = record { own = Stopped f p n; leads = Nothing }
+abbrev pub leadless : Walked → Child
+leadless w = record { own = w; leads = Nothing }

@@ -2,15 +2,15 @@
 -- Assumes nothing.
 use Prim.Native.Nat.{ℕ, _+_, _*_, _-_, _≤_}
 use mathlib.Core.Path.{_≡_}
-use mathlib.Core.Bool.{true}
 use mathlib.Core.List.{List}
 use lib.ListN.{length, getD}
+use Rattle.utf8.specs.declared.Utf8Check.the-variants.{Valid}
 use Rattle.value.specs.declared.View.{View}
 use Rattle.entry.specs.Entries.{placeAt, entryRead}
 use Rattle.events.specs.declared.Walked.{Walked}
 use Rattle.events.specs.declared.Walked.the-variants.{Done, Stopped}
 use Rattle.events.specs.Events.{span}
-use Rattle.events.specs.Text.{isText}
+use Rattle.events.specs.Text.{textAt}
 use Rattle.paths.specs.Judged.{judged, node, childless}
 use Rattle.events.specs.Lay.{lay, laid}
 use Rattle.paths.specs.Levels.{entryStand}
@@ -21,8 +21,8 @@ use Rattle.walk.specs.declared.Child.{Child}
 pub record Last (d out : List ℕ) (n : ℕ) : Type 0 where
   pub some : 1 ≤ n
   pub room : 8 * n ≤ length out
-  pub key : isText d (span (getD out (8 * n - 8 + 3) 0) (getD out (8 * n - 8 + 4) 0)) ≡ true
-  pub text : getD out (8 * n - 8) 0 ≡ 12 → isText d (span (getD out (8 * n - 8 + 5) 0) (getD out (8 * n - 8 + 6) 0)) ≡ true
+  pub key : textAt d (span (getD out (8 * n - 8 + 3) 0) (getD out (8 * n - 8 + 4) 0)) ≡ Valid
+  pub text : getD out (8 * n - 8) 0 ≡ 12 → textAt d (span (getD out (8 * n - 8 + 5) 0) (getD out (8 * n - 8 + 6) 0)) ≡ Valid
 
 -- a walk that was done leaves such an event
 abbrev pub Kept : List ℕ → Walked → List ℕ → Type 0

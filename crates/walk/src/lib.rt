@@ -3,6 +3,7 @@ use content::Part;
 pub use events::Walked;
 use layout::Kind;
 use sight::Sight;
+use texts::Utf8Check;
 use value::Span;
 use value::View;
 ghost use mathlib.Core.Path.{_≡_};
@@ -12,17 +13,18 @@ ghost use lib.ListN.{length, take, drop};
 ghost use Rattle.raw.specs.Numbers.{value as valueOf};
 ghost use Rattle.layout.specs.Layout.{offsetSize, keyEntry, offsetAt};
 ghost use Rattle.value.specs.declared.Value.the-variants.{Container};
+ghost use Rattle.events.specs.declared.Walked.the-variants.{Stopped};
 ghost use Rattle.header.specs.Course.{Within};
 ghost use Rattle.content.specs.Reading.{kind};
 ghost use Rattle.entry.specs.Entries.{endOf, keyOf};
-ghost use Rattle.events.specs.Text.{isText};
+ghost use Rattle.events.specs.Text.{textAt};
 ghost use Rattle.events.specs.Lay.{lay, laid, room as roomOf};
 ghost use Rattle.sight.specs.Sights.{sightAt};
 ghost use Rattle.sight.specs.Course.{Fit};
 ghost use Rattle.paths.specs.Levels.{children};
 ghost use Rattle.walk.specs.Course.{leadsBy};
 ghost use Rattle.walk.specs.Tested.{Last, Kept, Listed};
-ghost use Rattle.walk.specs.Seen.{seenText, seenNumber, seenLeaves, putPath, leadsIn, stoppedAt};
+ghost use Rattle.walk.specs.Seen.{seenText, seenOwn, seenLeaves, putPath, leadsIn, leadless};
 ghost use Rattle.paths.specs.Shown.{Walks};
 
 // What a value leads to: the elements of an array, the members of an object, or nothing.
@@ -113,41 +115,41 @@ fn key_at(doc: &[u8], v: View, place: usize) -> Part
     })
 }
 
-// Whether a key is UTF-8; that of the last event was tested.
-fn is_key(doc: &[u8], out: &[u32], n: usize, key: Span) -> bool
+// What the UTF-8 test says of a key; that of the last event was tested.
+fn key_text(doc: &[u8], out: &[u32], n: usize, key: Span) -> Utf8Check
     requires { ⌜ Last (now doc) (now out) n ⌝ }
-    ensures { λ r. ⌜ r ≡ isText (now (doc .entry)) key ⌝ }
+    ensures { λ r. ⌜ r ≡ textAt (now (doc .entry)) key ⌝ }
 {
     let at = 8 * n - 8;
     if out[at + 3] == key.start {
         if out[at + 4] == key.len {
-            return true;
+            return Utf8Check::Valid;
         }
     }
-    texts::is_text(doc, key)
+    texts::text_at(doc, key)
 }
 
-// Whether what is seen is no string that is not UTF-8; that of the last event was tested.
-fn is_seen_text(doc: &[u8], out: &[u32], n: usize, x: Sight) -> bool
+// What it says of what is seen, where that is a string; that of the last event was tested.
+fn seen_text(doc: &[u8], out: &[u32], n: usize, x: Sight) -> Utf8Check
     requires { ⌜ Last (now doc) (now out) n ⌝ }
     ensures { λ r. ⌜ r ≡ seenText (now (doc .entry)) x ⌝ }
 {
     if x.code != 12 {
-        return true;
+        return Utf8Check::Valid;
     }
     let part = x.part;
     let at = 8 * n - 8;
     if out[at + 5] == part.start {
         if out[at + 6] == part.len {
             if out[at] == 12 {
-                return true;
+                return Utf8Check::Valid;
             }
         }
     }
-    texts::is_text(doc, part)
+    texts::text_at(doc, part)
 }
 
-// Lists what is seen of the entry at a place, without its path: 0, or a refusal's number.
+// Lists what is seen of the entry at a place, without its path.
 fn list_entry(
     doc: &[u8],
     out: &mut [u32],
@@ -157,20 +159,33 @@ fn list_entry(
     size: u32,
     place: usize,
     room: usize,
-) -> u8
+) -> Walked
     requires { ⌜ Last (now doc) (now out) n × (room ≡ roomOf (now out)) ⌝ }
-    ensures { λ r. ⌜ r ≡ seenNumber (now (doc .entry)) (sightAt (now (doc .entry)) large start size place) (now (out .entry)) n ⌝ }
-    ensures { λ r. ⌜ now (out .exit) ≡ seenLeaves r (sightAt (now (doc .entry)) large start size place) (now (out .entry)) n ⌝ }
+    ensures { λ w. ⌜ w ≡ seenOwn (now (doc .entry)) (sightAt (now (doc .entry)) large start size place) place (now (out .entry)) n ⌝ }
+    ensures { λ w. ⌜ now (out .exit) ≡ seenLeaves w (sightAt (now (doc .entry)) large start size place) (now (out .entry)) n ⌝ }
 {
     let x = sight::sight_at(doc, large, start, size, place);
     if x.refusal != 0 {
-        return x.refusal;
+        return Walked::Stopped {
+            number: x.refusal,
+            place,
+            count: n,
+        };
     }
-    if !is_seen_text(doc, out, n, x) {
-        return refusal::UTF8;
+    let text = seen_text(doc, out, n, x);
+    if let Utf8Check::Bad(byte) = text {
+        return Walked::Stopped {
+            number: refusal::UTF8,
+            place: byte,
+            count: n,
+        };
     }
     if room <= n {
-        return refusal::EVENTS;
+        return Walked::Stopped {
+            number: refusal::EVENTS,
+            place,
+            count: n,
+        };
     }
     let part = x.part;
     let at = 8 * n;
@@ -178,7 +193,7 @@ fn list_entry(
     out[at + 5] = part.start;
     out[at + 6] = part.len;
     out[at + 7] = x.extra;
-    0
+    Walked::Done { count: n + 1 }
 }
 
 // The path of an event whose value was listed.
@@ -214,17 +229,24 @@ fn leads_at(out: &[u32], n: usize) -> Leads
     })
 }
 
-fn stopped(number: u8, place: usize, count: usize) -> Child
-    ensures { λ r. ⌜ r ≡ stoppedAt number place count ⌝ }
+// An entry that was not listed leads to nothing.
+fn unlisted(own: Walked) -> Child
+    ensures { λ r. ⌜ r ≡ leadless own ⌝ }
 {
     Child {
-        own: Walked::Stopped {
-            number,
-            place,
-            count,
-        },
+        own,
         leads: Leads::Nothing,
     }
+}
+
+fn stopped(number: u8, place: usize, count: usize) -> Child
+    ensures { λ r. ⌜ r ≡ leadless (Stopped number place count) ⌝ }
+{
+    unlisted(Walked::Stopped {
+        number,
+        place,
+        count,
+    })
 }
 
 // Lists element i of an array, which has no key.
@@ -242,13 +264,13 @@ fn list_element(
 {
     let k = as_kind(false, v);
     let place = v.start as usize + k.value_place(v.count, i);
-    let number = list_entry(doc, out, n, k.large, v.start, v.size, place, room);
-    if number != 0 {
-        return stopped(number, place, n);
-    }
+    let own = list_entry(doc, out, n, k.large, v.start, v.size, place, room);
+    let Walked::Done { count: _ } = own else {
+        return unlisted(own);
+    };
     put_path(out, n, depth, i, Span { start: 0, len: 0 });
     Child {
-        own: Walked::Done { count: n + 1 },
+        own,
         leads: leads_at(out, n),
     }
 }
@@ -271,17 +293,18 @@ fn list_member(
     let key_place = v.start as usize + k.key_place(i);
     match key_at(doc, v, key_place) {
         Part::Bytes(key) => {
-            if !is_key(doc, out, n, key) {
-                return stopped(refusal::UTF8, key_place, n);
+            let text = key_text(doc, out, n, key);
+            if let Utf8Check::Bad(byte) = text {
+                return stopped(refusal::UTF8, byte, n);
             }
             let place = v.start as usize + k.value_place(v.count, i);
-            let number = list_entry(doc, out, n, k.large, v.start, v.size, place, room);
-            if number != 0 {
-                return stopped(number, place, n);
-            }
+            let own = list_entry(doc, out, n, k.large, v.start, v.size, place, room);
+            let Walked::Done { count: _ } = own else {
+                return unlisted(own);
+            };
             put_path(out, n, depth, i, key);
             Child {
-                own: Walked::Done { count: n + 1 },
+                own,
                 leads: leads_at(out, n),
             }
         }

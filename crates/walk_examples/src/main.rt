@@ -213,10 +213,12 @@ fn object_examples() {
     list(b"\x00\x01\x00\x11\x00\x0A\x00\x01\x00\x0C\x0C\x00\x61\x04\x5A\x6F\xC3\xAB");
 }
 
-// A root string and a key that are not UTF-8.
+// A root string and a key that are not UTF-8; a root string that cuts a character, and the same before the byte that would go on.
 fn text_examples() {
     list(b"\x0C\x01\xFF");
     list(b"\x00\x01\x00\x0C\x00\x0B\x00\x01\x00\x04\x01\x00\xFF");
+    list(b"\x0C\x02\xE2\x82");
+    list(b"\x0C\x02\xE2\x82\xAC");
 }
 
 // Two members with the key a, and two elements that are the same bytes: none is left out.

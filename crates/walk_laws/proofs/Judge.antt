@@ -1,5 +1,5 @@
 -- What is said of a path: its event where it is good, and otherwise its first fault in document 01's order. Of a path that leads anywhere one of the two
--- is so, since below a container's count there is no nothing.
+-- is so, since below a container's count there is no nothing, and its texts lie in the document.
 -- Assumes nothing.
 use mathlib.Core.Path.{_≡_, refl, sym, ap, _∙_, subst}
 use mathlib.Core.Bool.{Bool, true, false, cond}
@@ -10,6 +10,8 @@ use native.Mathlib.Omega.{arith}
 use lib.Dec.{ltb}
 use lib.ListN.{length}
 use borrow.Author.Tests.{ltb-true, ltb-false}
+use Rattle.utf8.specs.declared.Utf8Check.{Utf8Check}
+use Rattle.utf8.specs.declared.Utf8Check.the-variants.{Valid, Bad}
 use Rattle.value.specs.declared.View.{View}
 use Rattle.value.specs.declared.Span.{Span}
 use Rattle.value.specs.declared.Value.{Value}
@@ -22,14 +24,15 @@ use Rattle.gate.specs.Said.{Said, says, nothing, refuses, readSaid, partSaid}
 use Rattle.jsonb.specs.Views.{rootRead}
 use Rattle.events.specs.declared.Spot.{Spot}
 use Rattle.events.specs.Events.{noKey, eventOf}
-use Rattle.events.specs.Text.{isText, isTextual}
-use Rattle.paths.specs.Judged.{Stand, Judged, bad, good, spot, valueJudged, keyJudged, judged}
+use Rattle.events.specs.Text.{textAt, valueText}
+use Rattle.paths.specs.Judged.{Stand, Judged, bad, good, spot, textThen, valueJudged, keyJudged, judged}
 use Rattle.paths.specs.Paths.{viewIn, Below, here, down, Item, lastOf, said}
 use Rattle.paths.specs.Levels.{entryStand}
 use Rattle.paths.proofs.Whole.{SaidStands, root-stands, elem-stands, entry-child}
 use Rattle.paths.proofs.Scan.{said-deep, said-near}
-use Rattle.walk_laws.specs.Promise.{Leads, keyIn, valueIn, eventAt, Good, Wrong, deep, key-refused, key-octets, value-refused, value-octets}
-use Rattle.walk_laws.proofs.Text.{text-test, value-test, refuted, denied}
+use Rattle.walk_laws.specs.Promise.{Leads, keyIn, valueIn, eventAt, Good, Wrong, deep, key-refused, key-octets, value-refused, value-octets, TextInside}
+use Rattle.walk_laws.proofs.Entry.{texts-inside}
+use Rattle.walk_laws.proofs.Text.{text-test, value-test, value-breaks, breaks-value}
 
 -- ---- a path by its key and its value
 module _ (d : List ℕ) (depth i : ℕ) (s : Stand) where
@@ -43,16 +46,15 @@ module _ (d : List ℕ) (depth i : ℕ) (s : Stand) where
     abbrev at : Spot
     at = spot depth i (s .place) k (s .from)
 
-    by-key : {b : Bool} → isText d k ≡ b → judged d depth i s ≡ cond b (valueJudged d at (s .value)) (bad 9 (s .keyPlace))
-    by-key t = ap of-key ke ∙ ap (λ (c : Bool). cond c (valueJudged d at (s .value)) (bad 9 (s .keyPlace))) t
+    by-key : {r : Utf8Check} → textAt d k ≡ r → judged d depth i s ≡ textThen r (valueJudged d at (s .value))
+    by-key t = ap of-key ke ∙ ap (λ (c : Utf8Check). textThen c (valueJudged d at (s .value))) t
 
-    module _ (t : isText d k ≡ true) where
+    module _ (t : textAt d k ≡ Valid) where
       judged-no-value : {f : ℕ} → s .value ≡ refuses f → judged d depth i s ≡ bad f (s .place)
       judged-no-value e = by-key t ∙ ap (valueJudged d at) e
 
-      by-value : {y : Value} {b : Bool} → s .value ≡ says y → isTextual d y ≡ b →
-          judged d depth i s ≡ cond b (good (eventOf at y) y) (bad 9 (s .place))
-      by-value {y} e u = by-key t ∙ ap (valueJudged d at) e ∙ ap (λ (c : Bool). cond c (good (eventOf at y) y) (bad 9 (s .place))) u
+      by-value : {y : Value} {r : Utf8Check} → s .value ≡ says y → valueText d y ≡ r → judged d depth i s ≡ textThen r (good (eventOf at y) y)
+      by-value {y} e u = by-key t ∙ ap (valueJudged d at) e ∙ ap (λ (c : Utf8Check). textThen c (good (eventOf at y) y)) u
 
 -- ---- what is said
 module _ (d : List ℕ) (x : Item) where
@@ -68,7 +70,7 @@ module _ (d : List ℕ) (x : Item) where
       let e : says (r .key) ≡ x .stand .key = sym (r .keySaid) in
       let f : says (r .value) ≡ x .stand .value = sym (r .valueSaid) in
       said-near d x (g .near)
-      ∙ by-value d long last (x .stand) (r .keySaid) (text-test d (r .key) .1 (r .keyUtf8)) (r .valueSaid) (value-test d (r .value) .1 (r .valueUtf8))
+      ∙ by-value d long last (x .stand) (r .keySaid) (text-test .valid d (r .key) .1 (r .keyUtf8)) (r .valueSaid) (value-test d (r .value) .1 (r .valueUtf8))
       ∙ ap (λ (k : Said Span). good (eventOf (spot long last (x .stand .place) (keyIn k) (x .stand .from)) (r .value)) (r .value)) e
       ∙ ap (λ (y : Said Value).
       good (eventOf (spot long last (x .stand .place) (keyIn (x .stand .key)) (x .stand .from)) (valueIn y)) (valueIn y)) f
@@ -76,23 +78,27 @@ module _ (d : List ℕ) (x : Item) where
   pub wrong-said : {f p : ℕ} → Wrong d x f p → said d x ≡ bad f p
   wrong-said (deep h) = said-deep d x h
   wrong-said (key-refused h e) = said-near d x h ∙ judged-no-key d long last (x .stand) e
-  wrong-said (key-octets {k = k} h e n) = said-near d x h ∙ by-key d long last (x .stand) e (denied (text-test d k) n)
-  wrong-said (value-refused {k = k} h e u q) = said-near d x h ∙ judged-no-value d long last (x .stand) e (text-test d k .1 u) q
-  wrong-said (value-octets {k = k} {y = y} h e u q n) =
-      said-near d x h ∙ by-value d long last (x .stand) e (text-test d k .1 u) q (denied (value-test d y) n)
+  wrong-said (key-octets {k = k} p h e b) = said-near d x h ∙ by-key d long last (x .stand) e (text-test .breaks d k p (b .inside) .1 b)
+  wrong-said (value-refused {k = k} h e u q) = said-near d x h ∙ judged-no-value d long last (x .stand) e (text-test .valid d k .1 u) q
+  wrong-said (value-octets {k = k} {y = y} p h e u q b) =
+      said-near d x h ∙ by-value d long last (x .stand) e (text-test .valid d k .1 u) q (breaks-value d y p b)
 
 -- ---- every path that leads anywhere is good or wrong
-pub record Answered (s : Stand) : Type 0 where
+pub record Told (s : Stand) : Type 0 where
   pub key : s .key ≡ nothing → ⊥
   pub value : s .value ≡ nothing → ⊥
+
+pub record Answered (d : List ℕ) (s : Stand) : Type 0 where
+  pub told : Told s
+  pub inside : TextInside d s
 
 abbrev Verdict : List ℕ → Item → Type 0
 Verdict d x = Good d x ⊎ ((f : ℕ) × ((p : ℕ) × Wrong d x f p))
 
-module _ (d : List ℕ) (x : Item) (a : Answered (x .stand)) (h : length (x .path) ≤ 100) where
-  module _ (k : Span) (ke : x .stand .key ≡ says k) (t : isText d k ≡ true) where
-    by-text : (y : Value) → x .stand .value ≡ says y → (b : Bool) → isTextual d y ≡ b → Verdict d x
-    by-text y e true u =
+module _ (d : List ℕ) (x : Item) (a : Answered d (x .stand)) (h : length (x .path) ≤ 100) where
+  module _ (k : Span) (ke : x .stand .key ≡ says k) (t : textAt d k ≡ Valid) where
+    by-text : (y : Value) → x .stand .value ≡ says y → (r : Utf8Check) → valueText d y ≡ r → Verdict d x
+    by-text y e Valid u =
         inl
         record {
           near = h;
@@ -100,29 +106,30 @@ module _ (d : List ℕ) (x : Item) (a : Answered (x .stand)) (h : length (x .pat
               record {
                 key = k;
                 keySaid = ke;
-                keyUtf8 = text-test d k .0 t;
+                keyUtf8 = text-test .valid d k .0 t;
                 value = y;
                 valueSaid = e;
                 valueUtf8 = value-test d y .0 u;
               };
         }
-    by-text y e false u = inr (9, (x .stand .place, value-octets h ke (text-test d k .0 t) e (refuted (value-test d y) u)))
+    by-text y e (Bad p) u =
+        inr (9, (p, value-octets p h ke (text-test .valid d k .0 t) e (value-breaks d y p (λ w z q. a .inside .string (e ∙ ap says q)) u)))
 
     by-said : (y : Said Value) → x .stand .value ≡ y → Verdict d x
-    by-said (says y) e = by-text y e (isTextual d y) refl
-    by-said nothing e = absurd (a .value e)
-    by-said (refuses n) e = inr (n, (x .stand .place, value-refused h ke (text-test d k .0 t) e))
+    by-said (says y) e = by-text y e (valueText d y) refl
+    by-said nothing e = absurd (a .told .value e)
+    by-said (refuses n) e = inr (n, (x .stand .place, value-refused h ke (text-test .valid d k .0 t) e))
 
-  by-key-text : (k : Span) → x .stand .key ≡ says k → (b : Bool) → isText d k ≡ b → Verdict d x
-  by-key-text k ke true t = by-said k ke t (x .stand .value) refl
-  by-key-text k ke false t = inr (9, (x .stand .keyPlace, key-octets h ke (refuted (text-test d k) t)))
+  by-key-text : (k : Span) → x .stand .key ≡ says k → (r : Utf8Check) → textAt d k ≡ r → Verdict d x
+  by-key-text k ke Valid t = by-said k ke t (x .stand .value) refl
+  by-key-text k ke (Bad p) t = inr (9, (p, key-octets p h ke (text-test .breaks d k p (a .inside .key ke) .0 t)))
 
   by-key-said : (k : Said Span) → x .stand .key ≡ k → Verdict d x
-  by-key-said (says k) e = by-key-text k e (isText d k) refl
-  by-key-said nothing e = absurd (a .key e)
+  by-key-said (says k) e = by-key-text k e (textAt d k) refl
+  by-key-said nothing e = absurd (a .told .key e)
   by-key-said (refuses n) e = inr (n, (x .stand .keyPlace, key-refused h e))
 
-pub verdict : (d : List ℕ) (x : Item) → Answered (x .stand) → Good d x ⊎ ((f : ℕ) × ((p : ℕ) × Wrong d x f p))
+pub verdict : (d : List ℕ) (x : Item) → Answered d (x .stand) → Good d x ⊎ ((f : ℕ) × ((p : ℕ) × Wrong d x f p))
 verdict d x a = go (ltb 100 (length (x .path))) refl
   where
     go : (b : Bool) → ltb 100 (length (x .path)) ≡ b → Verdict d x
@@ -142,18 +149,22 @@ says-answered : {A : Type 0} (x : A) → says x ≡ nothing → ⊥
 says-answered x e = let z : _≡_ {A = ℕ} 0 1 = cc in omega arith
 
 module _ (d : List ℕ) where
-  entry-answered : (v : View) (i : ℕ) → Answered (entryStand d v i)
+  entry-answered : (v : View) (i : ℕ) → Told (entryStand d v i)
   entry-answered v i = record { key = go (v .kind .object); value = read-answered (entryRead d v i) }
     where
       go : (b : Bool) → cond b (partSaid (keyRead d v i)) (says noKey) ≡ nothing → ⊥
       go true e = part-answered (keyRead d v i) e
       go false e = says-answered noKey e
 
-  below-answered : {s t : Stand} {π : List ℕ} → SaidStands d (s .value) → Answered s → Below d s π t → Answered t
+  below-answered : {s t : Stand} {π : List ℕ} → SaidStands d (s .value) → Told s → Below d s π t → Told t
   below-answered w a here = a
   below-answered {s = s} w a (down {i = i} h b) =
       below-answered (elem-stands d (viewIn (s .value)) i)
-      (subst Answered (entry-child d (s .value) w i h) (entry-answered (viewIn (s .value)) i)) b
+      (subst Told (entry-child d (s .value) w i h) (entry-answered (viewIn (s .value)) i)) b
 
-  pub leads-answered : {π : List ℕ} {s : Stand} → Leads d π s → Answered s
-  leads-answered b = below-answered (root-stands d) (record { key = says-answered noKey; value = read-answered (rootRead d) }) b
+  pub leads-answered : {π : List ℕ} {s : Stand} → Leads d π s → Answered d s
+  leads-answered {π} {s} b =
+      record {
+        told = below-answered (root-stands d) (record { key = says-answered noKey; value = read-answered (rootRead d) }) b;
+        inside = texts-inside d π s b;
+      }

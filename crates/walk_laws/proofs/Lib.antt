@@ -1,6 +1,8 @@
 pub mod Order
 pub mod Reach
 pub mod Names
+pub mod Entry
+pub mod Breaks
 pub mod Text
 pub mod Judge
 pub mod Stops

@@ -55,11 +55,12 @@ use Rattle.events.specs.declared.Walked.{Walked}
 use Rattle.events.specs.declared.Walked.the-variants.{Stopped}
 use Rattle.events.specs.Events.{noKey}
 use Rattle.paths.specs.Judged.{Stand}
-use Rattle.paths.specs.Paths.{rootStand, child, viewIn, countIn, Below, here, down, Item, paths}
+use Rattle.paths.specs.Paths.{rootStand, child, here, Item, paths}
 use Rattle.paths.specs.Shown.{Walks}
-use Rattle.paths.proofs.Whole.{Stands, SaidStands, root-stands, elem-stands}
+use Rattle.paths.proofs.Whole.{Stands}
 use Rattle.walk_laws.specs.Promise.{Leads, UpTo101, Wrong, deep, key-refused, key-octets, value-refused, value-octets, StopsAt, wrong, full, Halt}
 use Rattle.walk_laws.proofs.Reach.{reach}
+use Rattle.walk_laws.proofs.Entry.{leads-entry}
 use Rattle.walk_laws.proofs.Theorem.{refusal}
 
 -- ---- the numbers
@@ -252,29 +253,6 @@ key-faults d v i =
     both Keyed (ltb (keyOffset d v (keyPlaceAt v i)) (headerSize (v .kind) (v .count))) refl
     (both Keyed (ltb (v .size) (keyOffset d v (keyPlaceAt v i) + keyLength d v (keyPlaceAt v i))) refl tt)
 
--- ---- a path below the root leads to an entry of a whole container
-pub record Entry (d : List ℕ) (s : Stand) : Type 0 where
-  pub view : View
-  pub position : ℕ
-  pub whole : Stands d view
-  pub below : position < view .count
-  pub is : child d view position ≡ s
-
-entry-of : (d : List ℕ) (x : Said Value) → SaidStands d x → (i : ℕ) → i < countIn x → Entry d (child d (viewIn x) i)
-entry-of d (says (value.Scalar t s)) w i h = absurd (omega arith)
-entry-of d (says (value.Container v)) w i h = record { view = v; position = i; whole = w; below = h; is = refl }
-entry-of d nothing w i h = absurd (omega arith)
-entry-of d (refuses n) w i h = absurd (omega arith)
-
-entry-below : {d : List ℕ} {s t : Stand} {π : List ℕ} → Entry d s → SaidStands d (s .value) → Below d s π t → Entry d t
-entry-below n w here = n
-entry-below {d} {s = s} n w (down {i = i} h b) =
-    entry-below (entry-of d (s .value) w i h) (elem-stands d (viewIn (s .value)) i) b
-
-pub leads-entry : {d : List ℕ} {i : ℕ} {π : List ℕ} {s : Stand} → Leads d (i ∷ π) s → Entry d s
-leads-entry {d} (down {i = i} h b) =
-    entry-below (entry-of d (rootStand d .value) (root-stands d) i h) (elem-stands d (viewIn (rootStand d .value)) i) b
-
 -- nothing is in the way of reading it
 module _ (d : List ℕ) (v : View) (w : Stands d v) (i : ℕ) (h : i < v .count) where
   passed : {A : Type 0} (x : Said A) → gated d v true i x ≡ x
@@ -332,9 +310,9 @@ module _ (d : List ℕ) where
   wrong-number : {x : Item} {f p : ℕ} → Leads d (x .path) (x .stand) → Wrong d x f p → StopNumber (x .path) f
   wrong-number b (deep h) = too-deep h
   wrong-number {x} b (key-refused h e) = key-stop (x .path) b e
-  wrong-number b (key-octets h e n) = no-text
+  wrong-number b (key-octets p h e o) = no-text
   wrong-number {x} b (value-refused h e u q) = value-stop (x .path) b q
-  wrong-number b (value-octets h e u q n) = no-text
+  wrong-number b (value-octets p h e u q o) = no-text
 
   stop-number : {x : Item} {k n f p : ℕ} → Leads d (x .path) (x .stand) → StopsAt d k n x f p → StopNumber (x .path) f
   stop-number b (wrong h w) = wrong-number b w

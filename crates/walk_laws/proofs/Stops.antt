@@ -139,7 +139,7 @@ module _ (d : List ℕ) where
         ),
       )
 
-  pub decided : (xs : List Item) (k : ℕ) → ((x : Item) → List·Memᴰ x xs → Answered (x .stand)) → Fine xs k ⊎ Halted xs k
+  pub decided : (xs : List Item) (k : ℕ) → ((x : Item) → List·Memᴰ x xs → Answered d (x .stand)) → Fine xs k ⊎ Halted xs k
   decided [] k a = inl (record { good = λ y m. absurd (List·Memᴰ·not-nil m); fits = omega arith })
   decided (x ∷ xs) k a = go k (verdict d x (a x (List·Memᴰ·head refl))) (λ j. decided xs j (λ y m. a y (List·Memᴰ·tail m)))
     where

@@ -20,6 +20,7 @@ use Rattle.walk_laws.specs.Promise.{Success, Listing, Refusal, Untouched
 use Rattle.walk_laws.proofs.Order.{strict-order, one-list}
 use Rattle.walk_laws.proofs.Reach.{reach, one-place}
 use Rattle.walk_laws.proofs.Names.{naming}
+use Rattle.walk_laws.proofs.Entry.{texts-inside}
 use Rattle.walk_laws.proofs.Text.{text-test}
 use Rattle.walk_laws.proofs.Judge.{leads-answered}
 use Rattle.walk_laws.proofs.Stops.{chain, chain-ends, chain-over, Fine, fine-shown, stop-room, halt-shown, Halted, decided}
@@ -206,4 +207,5 @@ walk-theorem =
       strict-order = strict-order;
       one-answer = one-answer;
       text-test = text-test;
+      texts-inside = texts-inside;
     }

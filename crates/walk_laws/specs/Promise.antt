@@ -4,12 +4,15 @@
 -- Assumes nothing.
 use Prim.Native.Nat.{ℕ, _+_, _*_, _-_, _≤_, _<_}
 use mathlib.Core.Path.{_≡_}
-use mathlib.Core.Bool.{true, cond}
+use mathlib.Core.Bool.{cond}
 use mathlib.Core.Logic.{_↔_, _⊎_}
 use mathlib.Core.List.{List, [], _∷_, _++_, map, List·Memᴰ}
 use lib.Dec.{eqb}
 use lib.ListN.{length, take, drop}
-use Rattle.rfc3629.specs.Grammar.{Utf8}
+use lib.Seq.{slice}
+use Rattle.rfc3629.specs.Grammar.{Utf8, Begins, Unfinished}
+use Rattle.utf8.specs.declared.Utf8Check.the-variants.{Valid, Bad}
+use Rattle.codes.specs.declared.types.JsonbType.{JsonbType}
 use Rattle.codes.specs.declared.types.JsonbType.the-variants as type
 use Rattle.value.specs.declared.Span.{Span}
 use Rattle.value.specs.declared.Scalar.{Scalar}
@@ -21,7 +24,7 @@ use Rattle.events.specs.declared.Event.{Event}
 use Rattle.events.specs.declared.Walked.{Walked}
 use Rattle.events.specs.declared.Walked.the-variants.{Done, Stopped}
 use Rattle.events.specs.Events.{noKey, eventOf, numbers, wide}
-use Rattle.events.specs.Text.{bytes, isText}
+use Rattle.events.specs.Text.{bytes, textAt}
 use Rattle.paths.specs.Judged.{Stand, spot}
 use Rattle.events.specs.Lay.{room}
 use Rattle.paths.specs.Paths.{rootStand, Below, Before, Item, item, lastOf, paths}
@@ -43,6 +46,28 @@ ScalarUtf8 d (scalar.Opaque c s) = Unit {0}
 abbrev pub ValueUtf8 : List ℕ → Value → Type 0
 ValueUtf8 d (value.Scalar t s) = ScalarUtf8 d s
 ValueUtf8 d (value.Container v) = Unit {0}
+
+-- ---- where one breaks that is not: at the place p of the document there are whole characters from the part's start on, then bytes up to p that begin a
+-- character which has more, and no way on. Either the part ends at p inside that character, or no character begins with those bytes and the byte at p
+pub record BreaksAt (d : List ℕ) (s : Span) (p : ℕ) : Type 0 where
+  pub inside : s .start + s .len ≤ length d
+  pub begun : ℕ
+  pub order : (s .start ≤ begun) × (begun ≤ p) × (p ≤ s .start + s .len)
+  pub whole : Utf8 (slice (s .start) begun d)
+  pub unfinished : Unfinished (slice begun p d)
+  pub ended : p ≡ s .start + s .len → begun < p
+  pub stuck : p < s .start + s .len → Begins (slice begun (p + 1) d) → ⊥
+
+abbrev pub ScalarBreaks : List ℕ → Scalar → ℕ → Type 0
+ScalarBreaks d scalar.Null p = ⊥
+ScalarBreaks d (scalar.Boolean b) p = ⊥
+ScalarBreaks d (scalar.Number x) p = ⊥
+ScalarBreaks d (scalar.String s) p = BreaksAt d s p
+ScalarBreaks d (scalar.Opaque c s) p = ⊥
+
+abbrev pub ValueBreaks : List ℕ → Value → ℕ → Type 0
+ValueBreaks d (value.Scalar t s) p = ScalarBreaks d s p
+ValueBreaks d (value.Container v) p = ⊥
 
 -- ---- the path leads from the root to what stands at s: each position is below the count of the container that those before it reach
 abbrev pub Leads : List ℕ → List ℕ → Stand → Type 0
@@ -117,15 +142,16 @@ namesAfter π (e ∷ es) = nameAfter π (e .depth) (e .position) ∷ namesAfter 
 abbrev pub written : List Item → List ℕ → List ℕ
 written xs out = eventsOf xs ++ drop (wide * length xs) out
 
--- ---- what is wrong with a path, by its number and its place: 11, the key 5, the key 9, the value, a string 9; each where those before it are not
+-- ---- what is wrong with a path, by its number and its place: 11, the key 5, the key 9, the value, a string 9; each where those before it are not. A text's
+-- place is where it breaks, any other that of an entry
 pub data Wrong (d : List ℕ) (x : Item) : ℕ → ℕ → Type 0 where
   deep : 100 < length (x .path) → Wrong d x 11 (x .stand .place)
   key-refused : {f : ℕ} → length (x .path) ≤ 100 → x .stand .key ≡ refuses f → Wrong d x f (x .stand .keyPlace)
-  key-octets : {k : Span} → length (x .path) ≤ 100 → x .stand .key ≡ says k → (IsUtf8 d k → ⊥) → Wrong d x 9 (x .stand .keyPlace)
+  key-octets : {k : Span} (p : ℕ) → length (x .path) ≤ 100 → x .stand .key ≡ says k → BreaksAt d k p → Wrong d x 9 p
   value-refused : {k : Span} {f : ℕ} → length (x .path) ≤ 100 → x .stand .key ≡ says k → IsUtf8 d k → x .stand .value ≡ refuses f →
       Wrong d x f (x .stand .place)
-  value-octets : {k : Span} {y : Value} → length (x .path) ≤ 100 → x .stand .key ≡ says k → IsUtf8 d k → x .stand .value ≡ says y →
-      (ValueUtf8 d y → ⊥) → Wrong d x 9 (x .stand .place)
+  value-octets : {k : Span} {y : Value} (p : ℕ) → length (x .path) ≤ 100 → x .stand .key ≡ says k → IsUtf8 d k → x .stand .value ≡ says y →
+      ValueBreaks d y p → Wrong d x 9 p
 
 -- a path that is listed
 pub record Good (d : List ℕ) (x : Item) : Type 0 where
@@ -202,9 +228,18 @@ pub record StrictOrder : Type 0 where
 abbrev pub OneAnswer : Type 0
 OneAnswer = (d out : List ℕ) (r q : Walked) (left rest : List ℕ) → Walks d out r left → Walks d out q rest → (r ≡ q) × (left ≡ rest)
 
--- the code's test of text is RFC 3629's grammar
-abbrev pub TextTest : Type 0
-TextTest = (d : List ℕ) (s : Span) → (isText d s ≡ true) ↔ IsUtf8 d s
+-- the test of text is RFC 3629's grammar, and of a part of the document it tells the place at which that breaks
+pub record TextTest : Type 0 where
+  pub valid : (d : List ℕ) (s : Span) → (textAt d s ≡ Valid) ↔ IsUtf8 d s
+  pub breaks : (d : List ℕ) (s : Span) (p : ℕ) → s .start + s .len ≤ length d → (textAt d s ≡ Bad p) ↔ BreaksAt d s p
+
+-- the keys and strings that paths lead to are such parts: they lie in the document
+pub record TextInside (d : List ℕ) (s : Stand) : Type 0 where
+  pub key : {k : Span} → s .key ≡ says k → k .start + k .len ≤ length d
+  pub string : {t : JsonbType} {x : Span} → s .value ≡ says (value.Scalar t (scalar.String x)) → x .start + x .len ≤ length d
+
+abbrev pub TextsInside : Type 0
+TextsInside = (d π : List ℕ) (s : Stand) → Leads d π s → TextInside d s
 
 -- together
 pub record WalkTheorem : Type 1 where
@@ -219,3 +254,4 @@ pub record WalkTheorem : Type 1 where
   pub strict-order : StrictOrder
   pub one-answer : OneAnswer
   pub text-test : TextTest
+  pub texts-inside : TextsInside

@@ -9,7 +9,8 @@
 //! * `w`: the original has no listing. The walk below is ours, over the original's `key_at` and `elem_at`. ROOM, the depth of 100 and the UTF-8 of
 //!   keys are the walk's alone: the original has no room and no depth, and takes such keys.
 //! * `r`, `p`, `t`, `c`, `s`: the whole of each; `c` is the original's own order, which compares written bytes.
-//! * `u`: the standard library's `from_utf8`, which the original calls.
+//! * `u`: the standard library's `from_utf8`, which the original calls. Its error has no place of a byte: that is `valid_up_to` where the byte
+//!   there begins no character, else `error_len` bytes past it, and the end where there is no `error_len`.
 //! * `x`, `y`: `none`. The original's decimals come from bytes or text, never from numbers of digits and groups.
 //!
 //! A view's own start and size are private, and a number has no address. Where a container or number starts is read from its entry here; then
@@ -91,7 +92,7 @@ fn asked(name: &[u8], words: &[&[u8]]) -> Result<String, Word> {
             Ok(format!("{:?}", left.cmp(&right)).to_lowercase())
         }
         (b"s", [precision, scale]) => Ok(decimal_bin_size(number(precision)? as usize, number(scale)? as usize).to_string()),
-        (b"u", [text]) => Ok(String::from(if from_utf8(&bytes(text)?).is_ok() { "utf8" } else { "bad" })),
+        (b"u", [text]) => Ok(text_of(&bytes(text)?)),
         (b"x", [record @ .., room]) => {
             is_record(record)?;
             Err(if number(room)? <= MOST_OUTPUT { NONE } else { WHAT })
@@ -131,6 +132,20 @@ fn bytes(word: &[u8]) -> Result<Vec<u8>, Word> {
     }
     let digit = |b: u8| (b as char).to_digit(16);
     word.chunks(2).map(|two| Some((digit(two[0])? * 16 + digit(two[1])?) as u8)).collect::<Option<_>>().ok_or(WHAT)
+}
+
+/// What `from_utf8` says of a text. Its error begins with a character, whose first bytes may still be right.
+fn text_of(text: &[u8]) -> String {
+    let Err(fault) = from_utf8(text) else {
+        return String::from("utf8");
+    };
+    let begun = fault.valid_up_to();
+    let place = match fault.error_len() {
+        None => text.len(),
+        Some(length) if matches!(text[begun], 0xc2..=0xf4) => begun + length,
+        Some(_) => begun,
+    };
+    format!("bad {place}")
 }
 
 fn is_record(words: &[&[u8]]) -> Result<(), Word> {

@@ -1,9 +1,8 @@
--- Each test is the definition's: the value's refusal, a string that is no text, no room; and then the stores are those of what is seen.
+-- Each test is the definition's: the value's refusal, a string that breaks, no room; and then the stores are those of what is seen.
 -- Assumes nothing.
-use Rattle.walk.proofs.Tested.{seen-by, seen-refused, seen-no-text, seen-no-room, seen-put}
+use Rattle.walk.proofs.Tested.{seen-by, seen-refused, seen-breaks, seen-no-room, seen-put}
 use Rattle.walk.specs.Seen.{putSeen}
 use Rattle.events.proofs.Cases.{room-for}
-use borrow.Author.Tests.{not-true, not-false}
 use denote.Ref.{now}
 use native.Mathlib.Omega.{arith}
 use lib.ListN.{length-set}
@@ -12,9 +11,8 @@ use Rattle.walk.proofs.list_entry.Statement.{statement}
 use Rattle.walk.proofs.list_entry.Tie as tie
 use Rattle.walk.proofs.list_entry.Reads as reads
 use Rattle.walk.proofs.list_entry.Lts as lts
-use Rattle.events.proofs.room_in.Reads as room-in-reads
 use Rattle.sight.proofs.sight_at.Reads as sight-at-reads
-use Rattle.walk.proofs.is_seen_text.Reads as is-seen-text-reads
+use Rattle.walk.proofs.seen_text.Reads as seen-text-reads
 
 sight-at-requires : tie.Need-sight-at-requires
 sight-at-requires c κs = search needs
@@ -22,29 +20,35 @@ sight-at-requires c κs = search needs
 returns : tie.Need-returns
 returns c =
     let a = c .before .before .before .before .before .args in
-    seen-by (now (a .doc)) (now (a .out)) (a .n) (c .before .before .sight-at .ensures)
-    (seen-refused (now (a .doc)) (now (a .out)) (a .n) _ (c .if1 .taken))
+    seen-by (now (a .doc)) (now (a .out)) (a .place) (a .n) (c .before .before .sight-at .ensures)
+    (seen-refused (now (a .doc)) (now (a .out)) (a .place) (a .n) _ (c .if1 .taken))
 
-is-seen-text-requires : tie.Need-is-seen-text-requires
-is-seen-text-requires c κs = search needs
+seen-text-requires : tie.Need-seen-text-requires
+seen-text-requires c κs = search needs
+
+enum-known-text : tie.Need-enum-known-text
+enum-known-text c = search needs
 
 same-length : tie.Need-same-length
 same-length c = search needs
 
 returns-2 : tie.Need-returns-2
 returns-2 c =
-    let a = c .before .before .before .before .before .before .before .before .args in
-    seen-by (now (a .doc)) (now (a .out)) (a .n) (c .before .before .before .before .before .sight-at .ensures)
-    (seen-no-text (now (a .doc)) (now (a .out)) (a .n) _ (c .before .before .before .if1 .left) (c .before .is-seen-text .ensures) (not-true _ (c .if2 .taken)))
+    let a = c .before .before .before .before .before .before .before .before .before .before .args in
+    seen-by (now (a .doc)) (now (a .out)) (a .place) (a .n) (c .before .before .before .before .before .before .before .sight-at .ensures)
+    (seen-breaks (now (a .doc)) (now (a .out)) (a .place) (a .n) _ (c .before .before .before .before .before .if1 .left) (c .before .before .before .seen-text .ensures) (c .before .text .given .1))
+
+enum-told : tie.Need-enum-told
+enum-told c = search needs
 
 same-length-2 : tie.Need-same-length-2
 same-length-2 c = search needs
 
 returns-3 : tie.Need-returns-3
 returns-3 c =
-    let a = c .before .before .before .before .before .before .before .before .before .args in
-    seen-by (now (a .doc)) (now (a .out)) (a .n) (c .before .before .before .before .before .before .sight-at .ensures)
-    (seen-no-room (now (a .doc)) (now (a .out)) (a .n) _ (c .before .before .before .before .if1 .left) (c .before .before .is-seen-text .ensures) (not-false _ (c .before .if2 .left)) (c .before .before .before .before .before .before .before .before .before .pre .1) (c .if3 .taken))
+    let a = c .before .before .before .before .before .before .before .before .before .before .args in
+    seen-by (now (a .doc)) (now (a .out)) (a .place) (a .n) (c .before .before .before .before .before .before .before .sight-at .ensures)
+    (seen-no-room (now (a .doc)) (now (a .out)) (a .place) (a .n) _ (c .before .before .before .before .before .if1 .left) (c .before .before .before .seen-text .ensures) (c .before .enum-told .given .1) (c .before .before .before .before .before .before .before .before .before .before .pre .1) (c .if2 .taken))
 
 mul-at : tie.Need-mul-at
 mul-at c = search needs
@@ -53,7 +57,7 @@ mul-out : tie.Need-mul-out
 mul-out c = search needs
 
 slice-write-out : tie.Need-slice-write-out
-slice-write-out c = omega (arith, room-for (now (c .before .before .before .before .before .before .before .before .before .before .args .out)) (c .before .before .before .before .before .before .before .before .before .before .args .n) (omega (arith, c .before .before .before .before .before .before .before .before .before .before .pre .1, c .before .if3 .left)))
+slice-write-out c = omega (arith, room-for (now (c .before .before .before .before .before .before .before .before .before .before .before .args .out)) (c .before .before .before .before .before .before .before .before .before .before .before .args .n) (omega (arith, c .before .before .before .before .before .before .before .before .before .before .before .pre .1, c .before .if2 .left)))
 
 add-out : tie.Need-add-out
 add-out c = search needs
@@ -62,7 +66,7 @@ mul-out-2 : tie.Need-mul-out-2
 mul-out-2 c = search needs
 
 slice-write-out-2 : tie.Need-slice-write-out-2
-slice-write-out-2 c = simp length-set (omega (arith, room-for (now (c .before .before .before .before .before .before .before .before .before .before .args .out)) (c .before .before .before .before .before .before .before .before .before .before .args .n) (omega (arith, c .before .before .before .before .before .before .before .before .before .before .pre .1, c .before .if3 .left))))
+slice-write-out-2 c = simp length-set (omega (arith, room-for (now (c .before .before .before .before .before .before .before .before .before .before .before .args .out)) (c .before .before .before .before .before .before .before .before .before .before .before .args .n) (omega (arith, c .before .before .before .before .before .before .before .before .before .before .before .pre .1, c .before .if2 .left))))
 
 add-out-2 : tie.Need-add-out-2
 add-out-2 c = search needs
@@ -71,7 +75,7 @@ mul-out-3 : tie.Need-mul-out-3
 mul-out-3 c = search needs
 
 slice-write-out-3 : tie.Need-slice-write-out-3
-slice-write-out-3 c = simp length-set (omega (arith, room-for (now (c .before .before .before .before .before .before .before .before .before .before .args .out)) (c .before .before .before .before .before .before .before .before .before .before .args .n) (omega (arith, c .before .before .before .before .before .before .before .before .before .before .pre .1, c .before .if3 .left))))
+slice-write-out-3 c = simp length-set (omega (arith, room-for (now (c .before .before .before .before .before .before .before .before .before .before .before .args .out)) (c .before .before .before .before .before .before .before .before .before .before .before .args .n) (omega (arith, c .before .before .before .before .before .before .before .before .before .before .before .pre .1, c .before .if2 .left))))
 
 add-out-3 : tie.Need-add-out-3
 add-out-3 c = search needs
@@ -80,7 +84,10 @@ mul-out-4 : tie.Need-mul-out-4
 mul-out-4 c = search needs
 
 slice-write-out-4 : tie.Need-slice-write-out-4
-slice-write-out-4 c = simp length-set (omega (arith, room-for (now (c .before .before .before .before .before .before .before .before .before .before .args .out)) (c .before .before .before .before .before .before .before .before .before .before .args .n) (omega (arith, c .before .before .before .before .before .before .before .before .before .before .pre .1, c .before .if3 .left))))
+slice-write-out-4 c = simp length-set (omega (arith, room-for (now (c .before .before .before .before .before .before .before .before .before .before .before .args .out)) (c .before .before .before .before .before .before .before .before .before .before .before .args .n) (omega (arith, c .before .before .before .before .before .before .before .before .before .before .before .pre .1, c .before .if2 .left))))
+
+add-t17 : tie.Need-add-t17
+add-t17 c = search needs
 
 same-length-3 : tie.Need-same-length-3
 same-length-3 c = search needs
@@ -88,9 +95,9 @@ same-length-3 c = search needs
 returns-4 : tie.Need-returns-4
 unfolding putSeen
 returns-4 c =
-    let a = c .before .before .before .before .before .before .before .before .before .before .args in
-    seen-by (now (a .doc)) (now (a .out)) (a .n) (c .before .before .before .before .before .before .before .sight-at .ensures)
-    (seen-put (now (a .doc)) (now (a .out)) (a .n) _ (c .before .before .before .before .before .if1 .left) (c .before .before .before .is-seen-text .ensures) (not-false _ (c .before .before .if2 .left)) (c .before .before .before .before .before .before .before .before .before .before .pre .1) (c .before .if3 .left))
+    let a = c .before .before .before .before .before .before .before .before .before .before .before .args in
+    seen-by (now (a .doc)) (now (a .out)) (a .place) (a .n) (c .before .before .before .before .before .before .before .before .sight-at .ensures)
+    (seen-put (now (a .doc)) (now (a .out)) (a .place) (a .n) _ (c .before .before .before .before .before .before .if1 .left) (c .before .before .before .before .seen-text .ensures) (c .before .before .enum-told .given .1) (c .before .before .before .before .before .before .before .before .before .before .before .pre .1) (c .before .if2 .left))
 
 pub list-entry-spec : {M : Type 1} → statement M
 list-entry-spec =
@@ -98,9 +105,11 @@ list-entry-spec =
     (tie.spec
     sight-at-requires
     returns
-    is-seen-text-requires
+    seen-text-requires
+    enum-known-text
     same-length
     returns-2
+    enum-told
     same-length-2
     returns-3
     mul-at
@@ -115,5 +124,6 @@ list-entry-spec =
     add-out-3
     mul-out-4
     slice-write-out-4
+    add-t17
     same-length-3
     returns-4)
