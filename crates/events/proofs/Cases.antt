@@ -3,27 +3,22 @@
 use mathlib.Core.Path.{_≡_, refl, sym, ap, _∙_}
 use mathlib.Core.Bool.{Bool, true, false, cond}
 use mathlib.Core.List.{List, [], _∷_}
-use Prim.Native.Nat.{ℕ, suc, _+_, _*_, _-_, _/_, _≤_, _<_}
+use Prim.Native.Nat.{ℕ, suc, _+_, _*_, _/_, _≤_, _<_}
 use native.Mathlib.Omega.{arith}
 use native.Mathlib.Numerals.{add-one}
-use lib.ListN.{length, take, drop, set, length-take}
+use lib.ListN.{length, set}
 use lib.Seq.{sets}
 use lib.Dec.{ltb}
 use borrow.Author.Tests.{le-ltb, lt-ltb, eq-eqb, ne-eqb, ltb-true}
 use Rattle.layout.proofs.Cond.{yes, no}
 use Rattle.layout.specs.declared.Kind.{Kind}
 use Rattle.codes.specs.declared.types.JsonbType.{JsonbType}
-use Rattle.utf8.specs.Answer.{checked, countedFrom}
-use Rattle.utf8.proofs.Answers.{broken, shifted, breaks-within}
-use Rattle.utf8.specs.declared.Utf8Check.{Utf8Check}
-use Rattle.utf8.specs.declared.Utf8Check.the-variants.{Bad}
 use Rattle.value.specs.declared.Span.{Span}
 use Rattle.value.specs.declared.Value.{Value}
 use Rattle.events.specs.declared.Event.{Event}
 use Rattle.events.specs.declared.Spot.{Spot}
 use Rattle.events.specs.declared.Walked.the-variants.{Done, Stopped}
 use Rattle.events.specs.Events.{span, kindCode, codeOf, bytesOf, bytesFrom, partOf, extraOf, eventOf, wide}
-use Rattle.events.specs.Text.{bytes, textAt}
 use Rattle.events.specs.Listing as listing
 use Rattle.events.specs.Lay.{Laid, laid, put, room, lay}
 
@@ -54,30 +49,6 @@ module _ (t : JsonbType) (from : ℕ) where
   pub bytes-some : {n : ℕ} → (from ≡ 0 → ⊥) → n ≡ bytesOf t → span from n ≡ bytesFrom t from
   unfolding bytesFrom
   bytes-some e ne = no _ (ne-eqb from 0 e) (ap (span from) ne)
-
--- a part that the document has not, and one that it has; its bytes' check r as the callee gives it
-module _ (d : List ℕ) (s : Span) where
-  pub past-the-end : length d < s .start + s .len → Bad (length d) ≡ textAt d s
-  unfolding textAt
-  past-the-end h = yes _ (lt-ltb (length d) (s .start + s .len) h) refl
-
-  -- the bytes from a start up to an end are as many as the part's
-  part-bytes : take (s .start + s .len - s .start) (drop (s .start) d) ≡ bytes d s
-  part-bytes = let n : s .start + s .len - s .start ≡ s .len = omega arith in ap (λ (k : ℕ). take k (drop (s .start) d)) n
-
-  module _ {r : Utf8Check} (h : s .start + s .len ≤ length d) (re : r ≡ checked (take (s .start + s .len - s .start) (drop (s .start) d))) where
-    pub text-is : countedFrom (s .start) r ≡ textAt d s
-    unfolding textAt
-    text-is =
-        no _ (le-ltb (length d) (s .start + s .len) h)
-        (ap (countedFrom (s .start)) (re ∙ ap checked part-bytes) ∙ sym (shifted (s .start) (bytes d s)))
-
-    -- and breaks inside the part or at its end
-    pub text-break : {p : ℕ} → r ≡ Bad p → s .start + p ≤ length d
-    text-break {p} e =
-        let l = length-take (s .len) (drop (s .start) d) in
-        let b = breaks-within (broken (bytes d s) p .0 (sym (re ∙ ap checked part-bytes) ∙ e)) in
-        omega arith
 
 -- the event of a value; its code, part and extra number as callees give them
 module _ (s : Spot) (x : Value) where

@@ -1,17 +1,14 @@
 -- Cases of the definitions by the tests that lead to them, with what callees gave as variables of their own.
 -- Assumes nothing.
 use mathlib.Core.Path.{_≡_, refl, sym, ap, _∙_}
+use mathlib.Core.Bool.{Bool, true, false}
 use mathlib.Core.List.{List}
 use Prim.Native.Nat.{ℕ}
-use native.Mathlib.Omega.{arith}
 use lib.ListN.{length}
-use borrow.Author.Tests.{le-ltb, eq-eqb, ne-eqb}
+use borrow.Author.Tests.{eq-eqb, ne-eqb}
 use Rattle.layout.proofs.Cond.{yes, no}
-use Rattle.rfc3629.specs.Machine.{run}
 use Rattle.utf8.specs.declared.Utf8Check.{Utf8Check}
-use Rattle.utf8.specs.declared.Utf8Check.the-variants.{Valid, Bad}
 use Rattle.value.specs.declared.Span.{Span}
-use Rattle.value.specs.declared.Scalar.{Scalar}
 use Rattle.value.specs.declared.Scalar.the-variants as scalar
 use Rattle.value.specs.declared.Value.{Value}
 use Rattle.value.specs.declared.Value.the-variants as value
@@ -21,7 +18,8 @@ use Rattle.jsonb.specs.Views.{rootRead}
 use Rattle.events.specs.declared.Spot.{Spot}
 use Rattle.events.specs.declared.Walked.the-variants.{Stopped}
 use Rattle.events.specs.Events.{noKey, eventOf}
-use Rattle.events.specs.Text.{textAt, valueText}
+use Rattle.events.specs.Text.{textAt, valueText, isValid, breakOr}
+use Rattle.texts.proofs.Cases.{no-key-text, valid-so, broken-so}
 use Rattle.events.specs.Listing.{end, event}
 use Rattle.events.specs.Lay.{Laid, laid, lay}
 use Rattle.root_event.specs.Root.{stringOf, firstByte, spotOf, textNode, valueNode, readNode, rootNode}
@@ -36,36 +34,33 @@ module _ (d : List ℕ) where
   some-first e = no _ (ne-eqb (length d) 0 e) refl
 
   -- no bytes are text, so that a value's own string tells
-  pub no-key-text : textAt d noKey ≡ Valid
-  unfolding textAt run
-  no-key-text = sym (no _ (le-ltb (length d) 0 (omega arith)) refl)
-
   string-text : (x : Value) → textAt d (stringOf x) ≡ valueText d x
-  string-text (value.Scalar y scalar.Null) = no-key-text
-  string-text (value.Scalar y (scalar.Boolean b)) = no-key-text
-  string-text (value.Scalar y (scalar.Number n)) = no-key-text
+  string-text (value.Scalar y scalar.Null) = no-key-text d
+  string-text (value.Scalar y (scalar.Boolean b)) = no-key-text d
+  string-text (value.Scalar y (scalar.Number n)) = no-key-text d
   string-text (value.Scalar y (scalar.String s)) = refl
-  string-text (value.Scalar y (scalar.Opaque c s)) = no-key-text
-  string-text (value.Container v) = no-key-text
+  string-text (value.Scalar y (scalar.Opaque c s)) = no-key-text d
+  string-text (value.Container v) = no-key-text d
 
-  -- its string s, what is said of that, t, and its first byte f, as callees give them
-  module _ (x : Value) (out : List ℕ) {s : Span} (se : s ≡ stringOf x) {t : Utf8Check} (te : t ≡ textAt d s) where
-    textual : {u : Utf8Check} → t ≡ u → valueText d x ≡ u
-    textual e = sym (string-text x) ∙ ap (textAt d) (sym se) ∙ sym te ∙ e
+  -- its string s, whether that is text, b, where it breaks, p, and its first byte f, as callees give them
+  module _ (x : Value) (out : List ℕ) {s : Span} (se : s ≡ stringOf x) {b : Bool} (be : b ≡ isValid (textAt d s)) where
+    own-text : textAt d s ≡ valueText d x
+    own-text = ap (textAt d) se ∙ string-text x
 
     abbrev by : Utf8Check → Laid
     by u = lay (textNode u (event (eventOf (spotOf d) x) 0 end)) out 0
 
-    pub value-breaks : {p : ℕ} → t ≡ Bad p → lay (valueNode d x) out 0 ≡ laid (Stopped 9 p 0) out
+    pub value-breaks : {p : ℕ} → b ≡ false → p ≡ breakOr 0 (textAt d s) → lay (valueNode d x) out 0 ≡ laid (Stopped 9 p 0) out
     unfolding valueNode lay
-    value-breaks e = ap by (textual e)
+    value-breaks e pe =
+        ap by (sym own-text ∙ broken-so 0 (textAt d s) (sym be ∙ e)) ∙ ap (λ (q : ℕ). laid (Stopped 9 q 0) out) (sym pe)
 
     abbrev from : ℕ → Spot
     from f = record { depth = 0; position = 0; place = 0; key = noKey; from = f }
 
-    pub value-listed : {f : ℕ} {l : Laid} → t ≡ Valid → f ≡ firstByte d → lay (event (eventOf (from f) x) 0 end) out 0 ≡ l → lay (valueNode d x) out 0 ≡ l
+    pub value-listed : {f : ℕ} {l : Laid} → b ≡ true → f ≡ firstByte d → lay (event (eventOf (from f) x) 0 end) out 0 ≡ l → lay (valueNode d x) out 0 ≡ l
     unfolding valueNode
-    value-listed e fe a = ap by (textual e) ∙ ap (λ (f : ℕ). lay (event (eventOf (from f) x) 0 end) out 0) (sym fe) ∙ a
+    value-listed e fe a = ap by (sym own-text ∙ valid-so (textAt d s) (sym be ∙ e)) ∙ ap (λ (f : ℕ). lay (event (eventOf (from f) x) 0 end) out 0) (sym fe) ∙ a
 
   -- the root r as the callee gives it
   module _ (out : List ℕ) {r : Read} (re : r ≡ rootRead d) where

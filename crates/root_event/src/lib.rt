@@ -3,7 +3,6 @@ use content::Read;
 use events::Event;
 use events::Spot;
 use events::Walked;
-use texts::Utf8Check;
 use value::Scalar;
 use value::Span;
 use value::Value;
@@ -83,11 +82,11 @@ fn put_value(out: &mut [u32], n: usize, s: Spot, x: Value) -> Walked
 fn list_value(doc: &[u8], out: &mut [u32], x: Value) -> Walked
     ensures { λ w. ⌜ lay (valueNode (now (doc .entry)) x) (now (out .entry)) 0 ≡ laid w (now (out .exit)) ⌝ }
 {
-    let text = texts::text_at(doc, string_of(x));
-    if let Utf8Check::Bad(place) = text {
+    let string = string_of(x);
+    if !texts::is_text(doc, string) {
         return Walked::Stopped {
             number: refusal::UTF8,
-            place,
+            place: texts::break_or(doc, string, 0),
             count: 0,
         };
     }

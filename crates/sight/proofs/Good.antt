@@ -3,7 +3,7 @@
 use mathlib.Core.Path.{_≡_, refl}
 use mathlib.Core.Bool.{Bool, true, false, cond}
 use mathlib.Core.List.{List, [], _∷_}
-use Prim.Native.Nat.{ℕ, _+_, _*_, _-_}
+use Prim.Native.Nat.{ℕ, _+_, _*_, _-_, _<_}
 use native.Mathlib.Omega.{arith}
 use lib.Dec.{ltb, leb, eqb}
 use lib.ListN.{length, getD}
@@ -43,7 +43,7 @@ use Rattle.header.specs.declared.Header.the-variants as header
 use Rattle.header.proofs.Placed.{right-place}
 use Rattle.entry.specs.Entries.{endOf, isInlined, placeAt, valueEnd, pointedAt, typedEntry, entryOf, entryAt, entryRead}
 use Rattle.jsonb.specs.Views.{typedAt, rootRead}
-use Rattle.sight.specs.Course.{SoundScalar, Fit}
+use Rattle.sight.specs.Course.{Numbered, SoundScalar, Fit}
 
 abbrev GoodValue : List ℕ → Value → Type 0
 GoodValue d (value.Scalar t s) = SoundScalar t s
@@ -51,11 +51,11 @@ GoodValue d (value.Container v) = Fit d v
 
 abbrev pub Good : List ℕ → Read → Type 0
 Good d (read.Value x) = GoodValue d x
-Good d (read.Refused n) = n ≡ 0 → ⊥
+Good d (read.Refused n) = Numbered n
 
 abbrev GoodPart : Part → Type 0
 GoodPart (part.Bytes s) = Unit {0}
-GoodPart (part.Refused n) = n ≡ 0 → ⊥
+GoodPart (part.Refused n) = Numbered n
 
 -- what holds of each that a list has, and of none, holds of what is found
 module _ {A B : Type 0} (code : A → ℕ) (found : A → B) (none : B) (P : B → Type 0) (f : (t : A) → P (found t)) (z : P none) where
@@ -79,16 +79,16 @@ literal-good d i e = go (leb e i)
     known literal.False = (omega arith, λ c from. refl)
 
     go : (b : Bool) → Good d (cond b (read.Refused 3) (literalOf (literalType (getD d i 0))))
-    go true = λ z. omega arith
+    go true = (omega arith, omega arith)
     go false =
-        found-all literalCode literal-of.Known (literal-of.Refused 7) (λ (y : LiteralOf). Good d (literalOf y)) known (λ z. omega arith) allLiterals (getD d i 0)
+        found-all literalCode literal-of.Known (literal-of.Refused 7) (λ (y : LiteralOf). Good d (literalOf y)) known (omega arith, omega arith) allLiterals (getD d i 0)
 
 number-good : (d : List ℕ) (t : JsonbType) (w i e : ℕ) (x : Number) → SoundScalar t (scalar.Number x) → Good d (numberAt t w i e x)
 unfolding numberAt
 number-good d t w i e x h = go (ltb (e - i) w)
   where
     go : (b : Bool) → Good d (cond b (read.Refused 3) (scalarOf t (scalar.Number x)))
-    go true = λ z. omega arith
+    go true = (omega arith, omega arith)
     go false = h
 
 -- ---- parts
@@ -100,11 +100,11 @@ part-good d i e = by (groups 5 (slice i e d))
     by (got v k) = go (ltb v 4294967296) (ltb (e - (i + k)) v)
       where
         go : (a b : Bool) → GoodPart (cond a (cond b (part.Refused 3) (part.Bytes (span (i + k) v))) (part.Refused 8))
-        go true true = λ z. omega arith
+        go true true = (omega arith, omega arith)
         go true false = tt
-        go false b = λ z. omega arith
-    by short = λ z. omega arith
-    by long = λ z. omega arith
+        go false b = (omega arith, omega arith)
+    by short = (omega arith, omega arith)
+    by long = (omega arith, omega arith)
 
 string-good : (d : List ℕ) (i e : ℕ) → Good d (stringAt d i e)
 unfolding stringAt
@@ -123,10 +123,10 @@ opaque-good d i e = go (leb e i)
     of t (part.Refused n) h = h
 
     go : (b : Bool) → Good d (cond b (read.Refused 3) (opaqueOf (columnType (getD d i 0)) (partAt d (i + 1) e)))
-    go true = λ z. omega arith
+    go true = (omega arith, omega arith)
     go false =
         found-all columnCode column-of.Known (column-of.Refused 10) (λ (y : ColumnOf). Good d (opaqueOf y (partAt d (i + 1) e)))
-        (λ t. of t (partAt d (i + 1) e) (part-good d (i + 1) e)) (λ z. omega arith) allColumns (getD d i 0)
+        (λ t. of t (partAt d (i + 1) e) (part-good d (i + 1) e)) (omega arith, omega arith) allColumns (getD d i 0)
 
 -- ---- containers
 module _ (d : List ℕ) (k : Kind) (i e : ℕ) (w : Within (length d) i e) where
@@ -142,9 +142,9 @@ module _ (d : List ℕ) (k : Kind) (i e : ℕ) (w : Within (length d) i e) where
     where
       go : (a b c : Bool) → ltb (e - i) size ≡ b → ltb size (headerSize k count) ≡ c →
           Good d (viewed k i (cond a (header.Refused 3) (cond b (header.Refused 4) (cond c (header.Refused 4) (header.Whole count size)))))
-      go true b c p q = λ z. omega arith
-      go false true c p q = λ z. omega arith
-      go false false true p q = λ z. omega arith
+      go true b c p q = (omega arith, omega arith)
+      go false true c p q = (omega arith, omega arith)
+      go false false true p q = (omega arith, omega arith)
       go false false false p q =
           record {
             short = w .short;
@@ -170,13 +170,23 @@ content-good d type.Double i e w = number-good d type.Double 8 i e _ (omega arit
 content-good d type.String i e w = string-good d i e
 content-good d type.Opaque i e w = opaque-good d i e
 
--- at any place: a fault is a number that is not 0
+-- at any place: a fault is a number that is not 0, and small
+fault-small : (d : List ℕ) (i e : ℕ) → placeFault d i e < 16
+unfolding placeFault
+fault-small d i e = go (ltb 16777216 (length d)) (ltb (length d) e) (ltb e i)
+  where
+    go : (a b c : Bool) → cond a 1 (cond b 3 (cond c 3 0)) < 16
+    go true b c = omega arith
+    go false true c = omega arith
+    go false false true = omega arith
+    go false false false = omega arith
+
 placed-good : (d : List ℕ) (i e : ℕ) (x : Read) → (Within (length d) i e → Good d x) → Good d (placed d i e read.Refused x)
 placed-good d i e x h = go (eqb (placeFault d i e) 0) refl
   where
     go : (b : Bool) → eqb (placeFault d i e) 0 ≡ b → Good d (cond b x (read.Refused (placeFault d i e)))
     go true q = h (right-place d i e refl (eqb-true (placeFault d i e) 0 q))
-    go false q = eqb-false (placeFault d i e) 0 q
+    go false q = (let z = eqb-false (placeFault d i e) 0 q in omega arith, fault-small d i e)
 
 read-good : (d : List ℕ) (t : JsonbType) (i e : ℕ) → Good d (readAt d t i e)
 unfolding readAt
@@ -195,8 +205,8 @@ module _ (d : List ℕ) (v : View) where
         go : (a b c : Bool) →
             Good d (cond a (readAt d t body (body + offsetSize (v .kind))) (cond b (read.Refused 6) (cond c (read.Refused 6) (readAt d t there (endOf v)))))
         go true b c = read-good d t body (body + offsetSize (v .kind))
-        go false true c = λ z. omega arith
-        go false false true = λ z. omega arith
+        go false true c = (omega arith, omega arith)
+        go false false true = (omega arith, omega arith)
         go false false false = read-good d t there (endOf v)
 
   pub entry-good : (i : ℕ) → Good d (entryRead d v i)
@@ -205,7 +215,7 @@ module _ (d : List ℕ) (v : View) where
       placed-good d (valueEnd v i) (endOf v) (entryAt d v i)
       (λ w.
       found-all typeCode type-of.Known (type-of.Refused 2) (λ (y : TypeOf). Good d (entryOf d v y (placeAt v i + 1)))
-      (λ t. typed-good t (placeAt v i + 1)) (λ z. omega arith) allTypes (getD d (placeAt v i) 0))
+      (λ t. typed-good t (placeAt v i + 1)) (omega arith, omega arith) allTypes (getD d (placeAt v i) 0))
 
 -- ---- the root
 pub root-good : (d : List ℕ) → Good d (rootRead d)
@@ -214,8 +224,8 @@ root-good d = go (ltb 16777216 (length d)) (eqb (length d) 0)
   where
     go : (a b : Bool) →
         Good d (cond a (read.Refused 1) (cond b (scalarOf type.Literal scalar.Null) (typedAt d (typeOf (getD d 0 0)) 1 (length d))))
-    go true b = λ z. omega arith
+    go true b = (omega arith, omega arith)
     go false true = (omega arith, λ c from. refl)
     go false false =
         found-all typeCode type-of.Known (type-of.Refused 2) (λ (y : TypeOf). Good d (typedAt d y 1 (length d)))
-        (λ t. read-good d t 1 (length d)) (λ z. omega arith) allTypes (getD d 0 0)
+        (λ t. read-good d t 1 (length d)) (omega arith, omega arith) allTypes (getD d 0 0)

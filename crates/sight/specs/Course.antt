@@ -72,10 +72,13 @@ abbrev pub SoundValue : Value → Type 0
 SoundValue (value.Scalar t s) = SoundScalar t s
 SoundValue (value.Container v) = Unit {0}
 
--- no refusal is 0
+-- a refusal's number is not 0, and is below 16
+abbrev pub Numbered : ℕ → Type 0
+Numbered n = (1 ≤ n) × (n < 16)
+
 abbrev pub Sound : Read → Type 0
 Sound (read.Value x) = SoundValue x
-Sound (read.Refused n) = n ≡ 0 → ⊥
+Sound (read.Refused n) = Numbered n
 
 -- a container that the document has, with its header
 pub record Fit (d : List ℕ) (v : View) : Type 0 where

@@ -3,11 +3,11 @@
 use mathlib.Core.Path.{_≡_, refl, sym, ap, subst, _∙_}
 use mathlib.Core.Bool.{Bool, true, false, cond}
 use mathlib.Core.List.{List}
-use Prim.Native.Nat.{ℕ, _+_, _*_, _/_, _%_, _<_, _≤_}
+use Prim.Native.Nat.{ℕ, _+_, _*_, _-_, _/_, _%_, _<_, _≤_}
 use lib.Dec.{ltb, eqb}
 use native.Mathlib.Omega.{arith}
 use lib.ListN.{length, getD, take, drop, length-set}
-use borrow.Author.Tests.{le-ltb, lt-ltb, ltb-false}
+use borrow.Author.Tests.{le-ltb, lt-ltb, ltb-false, eqb-true, eqb-false, eq-eqb, ne-eqb}
 use Rattle.layout.proofs.Cond.{yes, no}
 use Rattle.utf8.specs.declared.Utf8Check.{Utf8Check}
 use Rattle.utf8.specs.declared.Utf8Check.the-variants.{Valid, Bad}
@@ -32,11 +32,11 @@ use Rattle.jsonb.specs.Views.{rootRead}
 use Rattle.events.specs.declared.Walked.{Walked}
 use Rattle.events.specs.declared.Walked.the-variants.{Done, Stopped}
 use Rattle.events.specs.Events.{noKey, wide, eventOf}
-use Rattle.events.specs.Text.{textAt, valueText}
+use Rattle.events.specs.Text.{textAt, valueText, isValid, breakOr}
+use Rattle.texts.proofs.Cases.{no-key-text, broken-so}
 use Rattle.events.specs.declared.Event.{Event}
 use Rattle.events.specs.Listing.{end, event}
 use Rattle.root_event.specs.Root.{firstByte, textNode, valueNode, readNode, rootNode}
-use Rattle.root_event.proofs.Cases.{no-key-text}
 use Rattle.paths.specs.Judged.{Judged, Stand, good, spot, textThen, valueJudged, keyJudged, judged, node, childless}
 use Rattle.events.specs.Lay.{Laid, laid, lay, put, room}
 use Rattle.events.proofs.Cases.{room-for}
@@ -47,12 +47,12 @@ use Rattle.sight.proofs.Laws.{sight-entry, entry-sound, root-sound}
 use Rattle.paths.specs.Paths.{rootStand}
 use Rattle.paths.specs.Levels.{entryStand}
 use Rattle.walk.specs.Course.{leadsBy, leadsTo}
-use Rattle.walk.specs.Tested.{Last, Kept, Listed}
-use Rattle.walk.specs.Seen.{seenOwn, seenLeaves, seenEvent, putSeen, putPath, leadsIn, leadless}
+use Rattle.walk.specs.Tested.{Last, Listed}
+use Rattle.walk.specs.Seen.{seenCode, ownBy, seenLeaves, seenEvent, putSeen, putPath, leadsIn, unlisted, stoppedAt, stoppedBy}
 use Rattle.walk.specs.declared.Child.{Child}
 use Rattle.walk.specs.declared.Leads.{Leads}
 use Rattle.walk.specs.declared.Leads.the-variants.{Array, Object, Nothing}
-use Rattle.walk.proofs.Seen.{Seen, never, put-parts, seen-stopped, seen-done, seen-leads, seen-last}
+use Rattle.walk.proofs.Seen.{Seen, put-parts, seen-stopped, seen-done, seen-leads, seen-last}
 
 -- what a container leads to
 module _ (v : View) where
@@ -79,6 +79,10 @@ module _ (out : List ℕ) (n : ℕ) where
 -- the kind of an object or an array
 pub same-kind : (k : Kind) {b : Bool} → k .object ≡ b → kind b (k .large) ≡ k
 same-kind k e = ap (λ (b : Bool). kind b (k .large)) (sym e)
+
+-- no walk both stops and is done
+pub never : {A : Type 0} {f p n m : ℕ} → Stopped f p n ≡ Done m → A
+never e = let z : _≡_ {A = ℕ} 0 1 = cc in absurd (omega arith)
 
 -- room is never above its bound
 room-small : (out : List ℕ) → room out ≤ 4294967295
@@ -159,25 +163,38 @@ module _ (d : List ℕ) (v : View) (p : ℕ) (ob : v .kind .object ≡ true) (w 
     pub length-is : {l : ℕ} → l ≡ valueOf (take 2 (drop (p + m) d)) → l ≡ le 2 d (p + m) (endOf v)
     length-is le = le ∙ sym (le-inside 2 d (p + m) (endOf v) (omega (arith, w .order, entry-size, size-is)))
 
--- an entry whose key is refused, or breaks; its key y and the key's place q as callees give them
+-- an entry whose key is refused, or breaks; its key y, the key's place q or that of the break as callees give them
 module _ (d : List ℕ) (v : View) (i depth : ℕ) (out : List ℕ) (n : ℕ) (y : Part) (ye : entryStand d v i .key ≡ partSaid y) where
-  stopped-so : {f q : ℕ} {c : Child} → c ≡ leadless (Stopped f q n) → own out n (judged d depth i (entryStand d v i)) (placeAt v i) ≡ laid (Stopped f q n) out → Listed d v i depth out n c out
+  stopped-so : {f q : ℕ} {c : Child} → c ≡ stoppedAt f q n → own out n (judged d depth i (entryStand d v i)) (placeAt v i) ≡ laid (Stopped f q n) out → Listed d v i depth out n c out
   stopped-so ce e = subst (λ (c : Child). Listed d v i depth out n c out) (sym ce) (record { listed = e; leads = λ m. never m; last = tt })
 
-  pub key-refused : {q m : ℕ} {c : Child} → q ≡ keyPlaceAt v i → y ≡ part.Refused m → c ≡ leadless (Stopped m q n) → Listed d v i depth out n c out
+  pub key-refused : {q m : ℕ} {c : Child} → q ≡ keyPlaceAt v i → y ≡ part.Refused m → c ≡ stoppedAt m q n → Listed d v i depth out n c out
   unfolding lay
   key-refused {m = m} qe yz ce =
       stopped-so ce (ap (by-key d depth i (entryStand d v i) (placeAt v i) out n) (ye ∙ ap partSaid yz) ∙ ap (λ (a : ℕ). laid (Stopped m a n) out) (sym qe))
 
-  pub key-bad : {k : Span} {t : Utf8Check} {q : ℕ} {c : Child} → y ≡ part.Bytes k → t ≡ textAt d k → t ≡ Bad q → c ≡ leadless (Stopped 9 q n) →
-      Listed d v i depth out n c out
-  key-bad yk te tb ce = stopped-so ce (key-breaks d depth i (entryStand d v i) (placeAt v i) out n (ye ∙ ap partSaid yk) (sym te ∙ tb))
+  pub key-bad : (z : ℕ) {k : Span} {b : Bool} {q : ℕ} {c : Child} → y ≡ part.Bytes k → b ≡ isValid (textAt d k) → b ≡ false → q ≡ breakOr z (textAt d k) →
+      c ≡ stoppedAt 9 q n → Listed d v i depth out n c out
+  key-bad z {k} yk be t qe ce =
+      stopped-so ce
+      (key-breaks d depth i (entryStand d v i) (placeAt v i) out n (ye ∙ ap partSaid yk) (broken-so z (textAt d k) (sym be ∙ t) ∙ ap Bad (sym qe)))
 
--- an entry whose key is text; its key k, its place p, its kind g, how its listing ended, w, and what that left, o, as callees give them
+-- a child that was not listed, by what its listing answered, f; c is the child as the callee gives it
+module _ (f p n : ℕ) where
+  abbrev child-by : Bool → Child
+  child-by b = unlisted (cond b (Stopped f p n) (Stopped 9 (f - 16) n))
+
+  pub by-number : {c : Child} → f < 16 → c ≡ stoppedAt f p n → c ≡ stoppedBy f p n
+  by-number h ce = ce ∙ sym (ap child-by (lt-ltb f 16 h))
+
+  pub by-break : {c : Child} → 16 ≤ f → c ≡ stoppedAt 9 (f - 16) n → c ≡ stoppedBy f p n
+  by-break h ce = ce ∙ sym (ap child-by (le-ltb f 16 h))
+
+-- an entry whose key is text; its key k, its place p, its kind g, what its listing answered, f, and what that left, o, as callees give them
 module _ (d : List ℕ) (v : View) (i depth : ℕ) (out : List ℕ) (n : ℕ) (k : Span) (ke : entryStand d v i .key ≡ says k) (kt : textAt d k ≡ Valid) {g : Kind} (ge : g ≡ v .kind)
-    {p : ℕ} (pe : p ≡ placeAt v i) {w : Walked} {o : List ℕ}
-    (we : w ≡ seenOwn d (sightAt d (g .large) (v .start) (v .size) p) p out n)
-    (oe : o ≡ seenLeaves w (sightAt d (g .large) (v .start) (v .size) p) out n) where
+    {p f : ℕ} (pe : p ≡ placeAt v i) {o : List ℕ}
+    (fe : f ≡ seenCode d (sightAt d (g .large) (v .start) (v .size) p) out n)
+    (oe : o ≡ seenLeaves f (sightAt d (g .large) (v .start) (v .size) p) out n) where
   abbrev what : Read
   what = entryRead d v i
 
@@ -191,50 +208,55 @@ module _ (d : List ℕ) (v : View) (i depth : ℕ) (out : List ℕ) (n : ℕ) (k
   sight-is =
       ap (λ (q : Kind). sightAt d (q .large) (v .start) (v .size) p) ge ∙ ap (sightAt d (v .kind .large) (v .start) (v .size)) pe ∙ sight-entry d v i
 
-  own-is : w ≡ seenOwn d (sightOf what from) (placeAt v i) out n
-  own-is = we ∙ ap (λ (x : Sight). seenOwn d x p out n) sight-is ∙ ap (λ (q : ℕ). seenOwn d (sightOf what from) q out n) pe
+  number-is : f ≡ seenCode d (sightOf what from) out n
+  number-is = fe ∙ ap (λ (x : Sight). seenCode d x out n) sight-is
 
-  leaves-is : {u : Walked} → w ≡ u → o ≡ seenLeaves u (sightOf what from) out n
-  leaves-is e = oe ∙ ap (λ (x : Sight). seenLeaves w x out n) sight-is ∙ ap (λ (u : Walked). seenLeaves u (sightOf what from) out n) e
+  leaves-is : {b : Bool} → eqb f 0 ≡ b → o ≡ cond b (putSeen out n (sightOf what from)) out
+  unfolding seenLeaves
+  leaves-is e = oe ∙ ap (λ (x : Sight). cond (eqb f 0) (putSeen out n x) out) sight-is ∙ ap (λ (b : Bool). cond b (putSeen out n (sightOf what from)) out) e
 
   value-of : all ≡ own out n (valueJudged d (spot depth i (placeAt v i) k from) (readSaid what)) (placeAt v i)
   value-of = key-text d depth i (entryStand d v i) (placeAt v i) out n ke kt
 
   -- it was not listed
-  pub entry-stopped : {f q m : ℕ} → w ≡ Stopped f q m → {c : Child} → c ≡ leadless w → Listed d v i depth out n c o
+  pub entry-stopped : (f ≡ 0 → ⊥) → {c : Child} → c ≡ stoppedBy f p n → Listed d v i depth out n c o
   entry-stopped z ce =
       subst (λ (c : Child). Listed d v i depth out n c o) (sym ce)
-      (record {
-        listed =
-            value-of
-            ∙ seen-stopped d out n depth i (placeAt v i) from k what (entry-sound d v i) own-is z
-            ∙ ap (laid w) (sym (leaves-is z));
-        leads = λ e. never (sym z ∙ e);
-        last = subst (λ (u : Walked). Kept d u o) (sym z) tt;
-      })
+      (go (ltb f 16)
+      (value-of
+      ∙ seen-stopped d out n depth i (placeAt v i) from k what (entry-sound d v i) number-is z
+      ∙ ap (λ (q : ℕ). laid (ownBy f q n) out) (sym pe)
+      ∙ ap (laid (ownBy f p n)) (sym (leaves-is (ne-eqb f 0 z)))))
+    where
+      go : (b : Bool) → all ≡ laid (cond b (Stopped f p n) (Stopped 9 (f - 16) n)) o →
+          Listed d v i depth out n (unlisted (cond b (Stopped f p n) (Stopped 9 (f - 16) n))) o
+      go true e = record { listed = e; leads = λ m. never m; last = tt }
+      go false e = record { listed = e; leads = λ m. never m; last = tt }
 
-  module _ {m : ℕ} (z : w ≡ Done m) where
-    abbrev done : Seen d out n depth i (placeAt v i) from k what w
-    done = seen-done d out n depth i (placeAt v i) from k what (entry-sound d v i) own-is z
+  module _ (z : f ≡ 0) where
+    abbrev done : Seen d out n depth i (placeAt v i) from k what
+    done = seen-done d out n depth i (placeAt v i) from k what (entry-sound d v i) number-is z
 
     room-here : 8 * n + 8 ≤ length out
     room-here = room-for out n (done .fits)
 
+    pub entry-small : n + 1 ≤ 4294967295
+    entry-small = omega (arith, done .fits, room-small out)
+
     pub entry-open : 8 * n + 8 ≤ length o
-    entry-open = let h : length o ≡ length out = ap length (leaves-is z) ∙ seen-length out n (sightOf what from) in omega (arith, room-here)
+    entry-open = let h : length o ≡ length out = ap length (leaves-is (eq-eqb f 0 z)) ∙ seen-length out n (sightOf what from) in omega (arith, room-here)
 
     -- it was, and its path put down after it leaves q, where its value leads to y
-    pub entry-listed : {q : List ℕ} {y : Leads} → q ≡ putPath o n depth i k → y ≡ leadsIn q n → Listed d v i depth out n (record { own = w; leads = y }) q
+    pub entry-listed : {q : List ℕ} {y : Leads} → q ≡ putPath o n depth i k → y ≡ leadsIn q n → Listed d v i depth out n (record { own = Done (n + 1); leads = y }) q
     entry-listed {q} {y} qe ye =
         let e : q ≡ put out n (seenEvent depth i k (sightOf what from)) =
-        qe ∙ ap (λ (l : List ℕ). putPath l n depth i k) (leaves-is z) ∙ put-parts out n depth i k (sightOf what from) in
-        let last : Last d q (n + 1) =
-        subst (λ (l : List ℕ). Last d l (n + 1)) (sym e)
-        (seen-last d out n depth i from k what (entry-sound d v i) (done .read) (done .text) kt room-here) in
+        qe ∙ ap (λ (l : List ℕ). putPath l n depth i k) (leaves-is (eq-eqb f 0 z)) ∙ put-parts out n depth i k (sightOf what from) in
         record {
-          listed = value-of ∙ done .listed ∙ ap (laid (Done (n + 1))) (sym e) ∙ ap (λ (u : Walked). laid u q) (sym (done .ends));
+          listed = value-of ∙ done .listed ∙ ap (laid (Done (n + 1))) (sym e);
           leads = λ m. ye ∙ ap (λ (l : List ℕ). leadsIn l n) e ∙ seen-leads d out n depth i from k what (entry-sound d v i) (done .read) room-here;
-          last = subst (λ (u : Walked). Kept d u q) (sym (done .ends)) last;
+          last =
+              subst (λ (l : List ℕ). Last d l (n + 1)) (sym e)
+              (seen-last d out n depth i from k what (entry-sound d v i) (done .read) (done .text) kt room-here);
         }
 
 -- the root has no key
@@ -272,7 +294,7 @@ module _ (d out : List ℕ) where
     pub leads : leadsIn o 0 ≡ leadsTo (rootRead d)
 
   pub rooted : {w : Walked} {o : List ℕ} {m : ℕ} → root ≡ laid w o → w ≡ Done m → Rooted o m
-  rooted {w} {o} {m} e we = go ends refl
+  rooted {w} {o} {m} e we = go (eqb number 0) refl
     where
       first : ℕ
       first = rootStand d .from
@@ -280,16 +302,20 @@ module _ (d out : List ℕ) where
       shown : Event
       shown = seenEvent 0 0 noKey (sightOf (rootRead d) first)
 
-      ends : Walked
-      ends = seenOwn d (sightOf (rootRead d) first) 0 out 0
+      number : ℕ
+      number = seenCode d (sightOf (rootRead d) first) out 0
 
-      so : root-at (rootRead d) ≡ laid (Done m) o
-      so = sym root-by ∙ e ∙ ap (λ (x : Walked). laid x o) we
+      ends : root-at (rootRead d) ≡ laid (Done m) o
+      ends = sym root-by ∙ e ∙ ap (λ (x : Walked). laid x o) we
 
-      go : (v : Walked) → ends ≡ v → Rooted o m
-      go (Done j) q =
-          let s = seen-done d out 0 0 0 0 first noKey (rootRead d) (root-sound d) refl q in
-          let h : laid (Done m) o ≡ laid (Done 1) (put out 0 shown) = sym so ∙ s .listed in
+      by-code : (b : Bool) → cond b (Stopped number 0 0) (Stopped 9 (number - 16) 0) ≡ Done m → Rooted o m
+      by-code true x = never x
+      by-code false x = never x
+
+      go : (b : Bool) → eqb number 0 ≡ b → Rooted o m
+      go true q =
+          let s = seen-done d out 0 0 0 0 first noKey (rootRead d) (root-sound d) refl (eqb-true number 0 q) in
+          let h : laid (Done m) o ≡ laid (Done 1) (put out 0 shown) = sym ends ∙ s .listed in
           let x : o ≡ put out 0 shown = cc in
           let y : m ≡ 1 = cc in
           let r : 8 * 0 + 8 ≤ length out = room-for out 0 (s .fits) in
@@ -301,7 +327,8 @@ module _ (d out : List ℕ) where
             room = t .room;
             leads = ap (λ (l : List ℕ). leadsIn l 0) x ∙ seen-leads d out 0 0 0 first noKey (rootRead d) (root-sound d) (s .read) r;
           }
-      go (Stopped f p n) q =
-          let h : laid ends out ≡ laid (Done m) o = sym (seen-stopped d out 0 0 0 0 first noKey (rootRead d) (root-sound d) refl q) ∙ so in
-          let x : Stopped f p n ≡ Done m = sym q ∙ cc in
-          never x
+      go false q =
+          let h : laid (ownBy number 0 0) out ≡ laid (Done m) o =
+          sym (seen-stopped d out 0 0 0 0 first noKey (rootRead d) (root-sound d) refl (eqb-false number 0 q)) ∙ ends in
+          let x : ownBy number 0 0 ≡ Done m = cc in
+          by-code (ltb number 16) x

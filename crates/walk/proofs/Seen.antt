@@ -15,7 +15,7 @@ use native.Mathlib.Omega.{arith}
 use lib.Dec.{ltb, eqb}
 use lib.ListN.{length, getD, set, length-set}
 use lib.Seq.{length-sets, getD-set-same, getD-set-other, set-comm}
-use borrow.Author.Tests.{lt-ltb, ltb-true, eq-eqb, ne-eqb}
+use borrow.Author.Tests.{le-ltb, lt-ltb, ltb-true, eq-eqb, ne-eqb}
 use Rattle.layout.specs.declared.Kind.{Kind}
 use Rattle.layout.proofs.Cond.{yes}
 use Rattle.codes.specs.Types.{codeOf as typeCode}
@@ -30,7 +30,6 @@ use Rattle.content.specs.declared.Read.{Read}
 use Rattle.content.specs.declared.Read.the-variants as read
 use Rattle.gate.specs.Said.{readSaid}
 use Rattle.events.specs.declared.Event.{Event}
-use Rattle.events.specs.declared.Walked.{Walked}
 use Rattle.events.specs.declared.Walked.the-variants.{Done, Stopped}
 use Rattle.events.specs.Events.{span, numbers, wide, kindCode, codeOf, partOf, extraOf, eventOf}
 use Rattle.events.specs.Text.{textAt, valueText}
@@ -38,11 +37,11 @@ use Rattle.events.specs.Lay.{Laid, laid, lay, put, room}
 use Rattle.events.proofs.Cases.{run-of-stores}
 use Rattle.sight.specs.declared.Sight.{Sight}
 use Rattle.sight.specs.Sights.{sightOf}
-use Rattle.sight.specs.Course.{Sound, SoundValue}
+use Rattle.sight.specs.Course.{Numbered, Sound, SoundValue}
 use Rattle.paths.specs.Judged.{good, spot, textThen, valueJudged, node, childless}
 use Rattle.walk.specs.Course.{leadsBy, leadsOf, leadsTo}
 use Rattle.walk.specs.Tested.{Last}
-use Rattle.walk.specs.Seen.{seenText, textStops, seenOwn, seenEvent, putSeen, putPath, leadsIn}
+use Rattle.walk.specs.Seen.{seenText, textCode, seenCode, ownBy, seenEvent, putSeen, putPath, leadsIn}
 use Rattle.walk.specs.declared.Leads.{Leads}
 use Rattle.walk.specs.declared.Leads.the-variants.{Nothing}
 
@@ -160,10 +159,6 @@ module _ (out : List ℕ) (n : ℕ) (e : Event) (h : 8 * n + 8 ≤ length out) w
       ∙ other upto0 (at 1) (8 * n) (e .depth) (λ q. omega arith)
       ∙ getD-set-same out (8 * n) (e .code) 0 (omega arith))
 
--- ---- no walk both stops and is done
-pub never : {A : Type 0} {f p n m : ℕ} → Stopped f p n ≡ Done m → A
-never e = let z : _≡_ {A = ℕ} 0 1 = cc in absurd (omega arith)
-
 -- ---- what is seen of a value is text exactly when the value is, and breaks where it breaks
 no-string : (k : Kind) → eqb (kindCode k) 12 ≡ false
 unfolding kindCode
@@ -180,71 +175,82 @@ unfolding seenText
 seen-value d from (value.Scalar t s) h = h .1 d from
 seen-value d from (value.Container v) h = ap (λ (b : Bool). cond b (textAt d (span (v .start) (v .size))) Valid) (no-string (v .kind))
 
--- ---- a value that was read and is judged by what is seen of it; w is how its listing ends as the callee gives it
+-- ---- a value that was read and is judged by what is seen of it; f is what its listing answers as the callee gives it
 module _ (d out : List ℕ) (n depth i p from : ℕ) (k : Span) where
   abbrev judgedAs : Read → Laid
   judgedAs r = lay (node (valueJudged d (spot depth i p k from) (readSaid r)) p childless) out n
 
-  abbrev ownBy : Utf8Check → Bool → Walked
-  ownBy t fits = textStops n t (cond fits (Done (n + 1)) (Stopped 12 p n))
+  -- by what is said of its text and whether there is room
+  abbrev codeBy : Utf8Check → Bool → ℕ
+  codeBy t fits = textCode t (cond fits 0 12)
 
-  -- what a value is laid to, by how its listing ends
-  abbrev laidAs : Value → Walked → Laid
-  laidAs x (Done m) = laid (Done m) (put out n (eventOf (spot depth i p k from) x))
-  laidAs x (Stopped f q m) = laid (Stopped f q m) out
+  abbrev by : Value → Utf8Check → Bool → Laid
+  by x Valid fits = cond fits (laid (Done (n + 1)) (put out n (eventOf (spot depth i p k from) x))) (laid (Stopped 12 p n) out)
+  by x (Bad q) fits = laid (Stopped 9 q n) out
 
-  value-by : (x : Value) → judgedAs (read.Value x) ≡ laidAs x (ownBy (valueText d x) (ltb n (room out)))
+  value-by : (x : Value) → judgedAs (read.Value x) ≡ by x (valueText d x) (ltb n (room out))
   unfolding lay
-  value-by x = go (valueText d x) (ltb n (room out)) refl
+  value-by x = go (valueText d x)
     where
-      fit : (b : Bool) → cond b (laidAs x (Done (n + 1))) (laidAs x (Stopped 12 p n)) ≡ laidAs x (cond b (Done (n + 1)) (Stopped 12 p n))
-      fit true = refl
-      fit false = refl
+      go : (t : Utf8Check) → lay (node (textThen t (good (eventOf (spot depth i p k from) x) x)) p childless) out n ≡ by x t (ltb n (room out))
+      go Valid = refl
+      go (Bad q) = refl
 
-      go : (t : Utf8Check) (b : Bool) → ltb n (room out) ≡ b →
-          lay (node (textThen t (good (eventOf (spot depth i p k from) x) x)) p childless) out n ≡ laidAs x (ownBy t b)
-      go Valid b e = ap (λ (c : Bool). cond c (laidAs x (Done (n + 1))) (laidAs x (Stopped 12 p n))) e ∙ fit b
-      go (Bad q) b e = refl
+  code-value : (x : Value) → SoundValue x → seenCode d (sightOf (read.Value x) from) out n ≡ codeBy (valueText d x) (ltb n (room out))
+  unfolding seenCode
+  code-value x h = ap (λ (t : Utf8Check). codeBy t (ltb n (room out))) (seen-value d from x h)
 
-  own-value : (x : Value) → SoundValue x → seenOwn d (sightOf (read.Value x) from) p out n ≡ ownBy (valueText d x) (ltb n (room out))
-  unfolding seenOwn
-  own-value x h = ap (λ (t : Utf8Check). ownBy t (ltb n (room out))) (seen-value d from x h)
-
-  own-refused : (m : ℕ) → (m ≡ 0 → ⊥) → seenOwn d (sightOf (read.Refused m) from) p out n ≡ Stopped m p n
-  unfolding seenOwn
-  own-refused m h = ap (λ (b : Bool). cond b (ownBy (seenText d (sightOf (read.Refused m) from)) (ltb n (room out))) (Stopped m p n)) (ne-eqb m 0 h)
+  code-refused : (m : ℕ) → Numbered m → seenCode d (sightOf (read.Refused m) from) out n ≡ m
+  unfolding seenCode
+  code-refused m h =
+      ap (λ (b : Bool). cond b (codeBy (seenText d (sightOf (read.Refused m) from)) (ltb n (room out))) m) (ne-eqb m 0 (λ z. omega arith))
 
   -- not listed
-  pub seen-stopped : (r : Read) → Sound r → {w : Walked} {f q m : ℕ} → w ≡ seenOwn d (sightOf r from) p out n → w ≡ Stopped f q m → judgedAs r ≡ laid w out
+  own-number : (m : ℕ) → m < 16 → laid (Stopped m p n) out ≡ laid (ownBy m p n) out
+  own-number m h = sym (ap (λ (b : Bool). laid (cond b (Stopped m p n) (Stopped 9 (m - 16) n)) out) (lt-ltb m 16 h))
+
+  own-break : (q : ℕ) → laid (Stopped 9 q n) out ≡ laid (ownBy (16 + q) p n) out
+  own-break q =
+      let e : q ≡ 16 + q - 16 = omega arith in
+      ap (λ (a : ℕ). laid (Stopped 9 a n) out) e
+      ∙ sym (ap (λ (b : Bool). laid (cond b (Stopped (16 + q) p n) (Stopped 9 (16 + q - 16) n)) out) (le-ltb (16 + q) 16 (omega arith)))
+
+  pub seen-stopped : (r : Read) → Sound r → {f : ℕ} → f ≡ seenCode d (sightOf r from) out n → (f ≡ 0 → ⊥) → judgedAs r ≡ laid (ownBy f p n) out
   unfolding lay
-  seen-stopped (read.Value x) h we ws = value-by x ∙ ap (laidAs x) (sym (own-value x h) ∙ sym we ∙ ws) ∙ ap (λ (v : Walked). laid v out) (sym ws)
-  seen-stopped (read.Refused m) h we ws = ap (λ (v : Walked). laid v out) (sym (we ∙ own-refused m h))
+  seen-stopped (read.Value x) h {f} fe z = value-by x ∙ go (valueText d x) (ltb n (room out)) (fe ∙ code-value x h)
+    where
+      to : {g : ℕ} → f ≡ g → laid (ownBy g p n) out ≡ laid (ownBy f p n) out
+      to e = ap (λ (a : ℕ). laid (ownBy a p n) out) (sym e)
+
+      go : (t : Utf8Check) (b : Bool) → f ≡ codeBy t b → by x t b ≡ laid (ownBy f p n) out
+      go Valid true e = absurd (z e)
+      go Valid false e = own-number 12 (omega arith) ∙ to e
+      go (Bad q) b e = own-break q ∙ to e
+  seen-stopped (read.Refused m) h {f} fe z = own-number m (h .1) ∙ ap (λ (a : ℕ). laid (ownBy a p n) out) (sym (fe ∙ code-refused m h))
 
   -- listed: there was room, and the value is text
-  pub record Seen (r : Read) (w : Walked) : Type 0 where
+  pub record Seen (r : Read) : Type 0 where
     pub value : Value
     pub read : r ≡ read.Value value
     pub text : valueText d value ≡ Valid
     pub fits : n < room out
-    pub ends : w ≡ Done (n + 1)
     pub listed : judgedAs r ≡ laid (Done (n + 1)) (put out n (seenEvent depth i k (sightOf r from)))
 
-  pub seen-done : (r : Read) → Sound r → {w : Walked} {m : ℕ} → w ≡ seenOwn d (sightOf r from) p out n → w ≡ Done m → Seen r w
-  seen-done (read.Value x) h {w} {m} we wd = go (valueText d x) (ltb n (room out)) refl refl (we ∙ own-value x h)
+  pub seen-done : (r : Read) → Sound r → {f : ℕ} → f ≡ seenCode d (sightOf r from) out n → f ≡ 0 → Seen r
+  seen-done (read.Value x) h {f} fe z = go (valueText d x) (ltb n (room out)) refl refl (sym z ∙ fe ∙ code-value x h)
     where
-      go : (t : Utf8Check) (b : Bool) → valueText d x ≡ t → ltb n (room out) ≡ b → w ≡ ownBy t b → Seen (read.Value x) w
-      go Valid true u v e =
+      go : (t : Utf8Check) (b : Bool) → valueText d x ≡ t → ltb n (room out) ≡ b → _≡_ {A = ℕ} 0 (codeBy t b) → Seen (read.Value x)
+      go Valid true t u e =
           record {
             value = x;
             read = refl;
-            text = u;
-            fits = ltb-true n (room out) v;
-            ends = e;
-            listed = value-by x ∙ ap (laidAs x) (sym (own-value x h) ∙ sym we ∙ e);
+            text = t;
+            fits = ltb-true n (room out) u;
+            listed = value-by x ∙ ap (λ (c : Utf8Check). by x c (ltb n (room out))) t ∙ ap (by x Valid) u;
           }
-      go Valid false u v e = never (sym e ∙ wd)
-      go (Bad q) b u v e = never (sym e ∙ wd)
-  seen-done (read.Refused m) h we wd = never (sym (we ∙ own-refused m h) ∙ wd)
+      go Valid false t u e = absurd (omega arith)
+      go (Bad q) b t u e = absurd (omega arith)
+  seen-done (read.Refused m) h {f} fe z = let e : m ≡ 0 = sym (code-refused m h) ∙ sym fe ∙ z in absurd (omega (arith, h .0))
 
 -- ---- what an event that was put down leads to
 -- by its numbers

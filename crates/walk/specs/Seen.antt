@@ -1,6 +1,6 @@
 -- An event in two parts, as the code lays it down: what is seen of the value, and then the path. No public promise rests on it.
 -- Assumes nothing.
-use Prim.Native.Nat.{ℕ, _+_, _*_, _%_}
+use Prim.Native.Nat.{ℕ, _+_, _*_, _-_, _%_}
 use mathlib.Core.Bool.{cond}
 use mathlib.Core.List.{List}
 use lib.Dec.{ltb, eqb}
@@ -11,7 +11,7 @@ use Rattle.value.specs.declared.Span.{Span}
 use Rattle.content.specs.Reading.{kind, view}
 use Rattle.events.specs.declared.Event.{Event}
 use Rattle.events.specs.declared.Walked.{Walked}
-use Rattle.events.specs.declared.Walked.the-variants.{Done, Stopped}
+use Rattle.events.specs.declared.Walked.the-variants.{Stopped}
 use Rattle.events.specs.Text.{textAt}
 use Rattle.events.specs.Lay.{room}
 use Rattle.sight.specs.declared.Sight.{Sight}
@@ -24,15 +24,17 @@ use Rattle.walk.specs.declared.Child.{Child}
 unfoldable pub seenText : List ℕ → Sight → Utf8Check
 seenText d x = cond (eqb (x .code) 12) (textAt d (x .part)) Valid
 
--- a text that breaks stops a walk where it breaks, after n events; any other lets it end as it does
-abbrev pub textStops : ℕ → Utf8Check → Walked → Walked
-textStops n Valid w = w
-textStops n (Bad q) w = Stopped 9 q n
+-- what its listing answers, in one number: 0; the value's refusal; where a string breaks, 16 more than the place of the byte; 12 where there is no room
+abbrev pub textCode : Utf8Check → ℕ → ℕ
+textCode Valid f = f
+textCode (Bad q) f = 16 + q
 
--- how the listing of what is seen at the place p ends: at the value's refusal, then where a string breaks, then at 12 where there is no room
-unfoldable pub seenOwn : List ℕ → Sight → ℕ → List ℕ → ℕ → Walked
-seenOwn d x p out n =
-    cond (eqb (x .refusal) 0) (textStops n (seenText d x) (cond (ltb n (room out)) (Done (n + 1)) (Stopped 12 p n))) (Stopped (x .refusal) p n)
+unfoldable pub seenCode : List ℕ → Sight → List ℕ → ℕ → ℕ
+seenCode d x out n = cond (eqb (x .refusal) 0) (textCode (seenText d x) (cond (ltb n (room out)) 0 12)) (x .refusal)
+
+-- how the walk ends by such a number, of an entry at the place p
+abbrev pub ownBy : ℕ → ℕ → ℕ → Walked
+ownBy f p n = cond (ltb f 16) (Stopped f p n) (Stopped 9 (f - 16) n)
 
 -- the event that shows it at the end of a path
 abbrev pub seenEvent : ℕ → ℕ → Span → Sight → Event
@@ -45,10 +47,9 @@ putSeen out n x = set (set (set (set out (8 * n) (x .code)) (8 * n + 5) (x .part
 unfoldable pub putPath : List ℕ → ℕ → ℕ → ℕ → Span → List ℕ
 putPath out n depth i k = set (set (set (set out (8 * n + 1) depth) (8 * n + 2) i) (8 * n + 3) (k .start)) (8 * n + 4) (k .len)
 
--- what is left where its listing ends so
-abbrev pub seenLeaves : Walked → Sight → List ℕ → ℕ → List ℕ
-seenLeaves (Done m) x out n = putSeen out n x
-seenLeaves (Stopped f q m) x out n = out
+-- what is left after a number of the listing
+unfoldable pub seenLeaves : ℕ → Sight → List ℕ → ℕ → List ℕ
+seenLeaves f x out n = cond (eqb f 0) (putSeen out n x) out
 
 -- what the value of event n leads to: the codes 0 to 3 are containers, below 2 objects, and odd ones are large
 unfoldable pub leadsIn : List ℕ → ℕ → Leads
@@ -58,5 +59,11 @@ leadsIn out n =
     (ltb (getD out (8 * n) 0) 2))
 
 -- a child that was not listed
-abbrev pub leadless : Walked → Child
-leadless w = record { own = w; leads = Nothing }
+abbrev pub unlisted : Walked → Child
+unlisted w = record { own = w; leads = Nothing }
+
+abbrev pub stoppedAt : ℕ → ℕ → ℕ → Child
+stoppedAt f p n = unlisted (Stopped f p n)
+
+abbrev pub stoppedBy : ℕ → ℕ → ℕ → Child
+stoppedBy f p n = unlisted (ownBy f p n)

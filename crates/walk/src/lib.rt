@@ -3,7 +3,6 @@ use content::Part;
 pub use events::Walked;
 use layout::Kind;
 use sight::Sight;
-use texts::Utf8Check;
 use value::Span;
 use value::View;
 ghost use mathlib.Core.Path.{_≡_};
@@ -13,18 +12,17 @@ ghost use lib.ListN.{length, take, drop};
 ghost use Rattle.raw.specs.Numbers.{value as valueOf};
 ghost use Rattle.layout.specs.Layout.{offsetSize, keyEntry, offsetAt};
 ghost use Rattle.value.specs.declared.Value.the-variants.{Container};
-ghost use Rattle.events.specs.declared.Walked.the-variants.{Stopped};
 ghost use Rattle.header.specs.Course.{Within};
 ghost use Rattle.content.specs.Reading.{kind};
 ghost use Rattle.entry.specs.Entries.{endOf, keyOf};
-ghost use Rattle.events.specs.Text.{textAt};
+ghost use Rattle.events.specs.Text.{textAt, isValid};
 ghost use Rattle.events.specs.Lay.{lay, laid, room as roomOf};
 ghost use Rattle.sight.specs.Sights.{sightAt};
 ghost use Rattle.sight.specs.Course.{Fit};
 ghost use Rattle.paths.specs.Levels.{children};
 ghost use Rattle.walk.specs.Course.{leadsBy};
 ghost use Rattle.walk.specs.Tested.{Last, Kept, Listed};
-ghost use Rattle.walk.specs.Seen.{seenText, seenOwn, seenLeaves, putPath, leadsIn, leadless};
+ghost use Rattle.walk.specs.Seen.{seenText, seenCode, seenLeaves, putPath, leadsIn, stoppedAt, stoppedBy};
 ghost use Rattle.paths.specs.Shown.{Walks};
 
 // What a value leads to: the elements of an array, the members of an object, or nothing.
@@ -115,41 +113,42 @@ fn key_at(doc: &[u8], v: View, place: usize) -> Part
     })
 }
 
-// What the UTF-8 test says of a key; that of the last event was tested.
-fn key_text(doc: &[u8], out: &[u32], n: usize, key: Span) -> Utf8Check
+// Whether a key is UTF-8; that of the last event was tested.
+fn is_key(doc: &[u8], out: &[u32], n: usize, key: Span) -> bool
     requires { ⌜ Last (now doc) (now out) n ⌝ }
-    ensures { λ r. ⌜ r ≡ textAt (now (doc .entry)) key ⌝ }
+    ensures { λ r. ⌜ r ≡ isValid (textAt (now (doc .entry)) key) ⌝ }
 {
     let at = 8 * n - 8;
     if out[at + 3] == key.start {
         if out[at + 4] == key.len {
-            return Utf8Check::Valid;
+            return true;
         }
     }
-    texts::text_at(doc, key)
+    texts::is_text(doc, key)
 }
 
-// What it says of what is seen, where that is a string; that of the last event was tested.
-fn seen_text(doc: &[u8], out: &[u32], n: usize, x: Sight) -> Utf8Check
+// Whether what is seen is no string that is not UTF-8; that of the last event was tested.
+fn is_seen_text(doc: &[u8], out: &[u32], n: usize, x: Sight) -> bool
     requires { ⌜ Last (now doc) (now out) n ⌝ }
-    ensures { λ r. ⌜ r ≡ seenText (now (doc .entry)) x ⌝ }
+    ensures { λ r. ⌜ r ≡ isValid (seenText (now (doc .entry)) x) ⌝ }
 {
     if x.code != 12 {
-        return Utf8Check::Valid;
+        return true;
     }
     let part = x.part;
     let at = 8 * n - 8;
     if out[at + 5] == part.start {
         if out[at + 6] == part.len {
             if out[at] == 12 {
-                return Utf8Check::Valid;
+                return true;
             }
         }
     }
-    texts::text_at(doc, part)
+    texts::is_text(doc, part)
 }
 
-// Lists what is seen of the entry at a place, without its path.
+// Lists what is seen of the entry at a place, without its path: 0; a refusal's number, which is below 16; or, where a string breaks, 16 more than
+// the place of the byte. One number costs a walk least: an enum would take room at each level of the stack.
 fn list_entry(
     doc: &[u8],
     out: &mut [u32],
@@ -159,41 +158,29 @@ fn list_entry(
     size: u32,
     place: usize,
     room: usize,
-) -> Walked
+) -> usize
     requires { ⌜ Last (now doc) (now out) n × (room ≡ roomOf (now out)) ⌝ }
-    ensures { λ w. ⌜ w ≡ seenOwn (now (doc .entry)) (sightAt (now (doc .entry)) large start size place) place (now (out .entry)) n ⌝ }
-    ensures { λ w. ⌜ now (out .exit) ≡ seenLeaves w (sightAt (now (doc .entry)) large start size place) (now (out .entry)) n ⌝ }
+    ensures { λ r. ⌜ r ≡ seenCode (now (doc .entry)) (sightAt (now (doc .entry)) large start size place) (now (out .entry)) n ⌝ }
+    ensures { λ r. ⌜ now (out .exit) ≡ seenLeaves r (sightAt (now (doc .entry)) large start size place) (now (out .entry)) n ⌝ }
 {
     let x = sight::sight_at(doc, large, start, size, place);
     if x.refusal != 0 {
-        return Walked::Stopped {
-            number: x.refusal,
-            place,
-            count: n,
-        };
-    }
-    let text = seen_text(doc, out, n, x);
-    if let Utf8Check::Bad(byte) = text {
-        return Walked::Stopped {
-            number: refusal::UTF8,
-            place: byte,
-            count: n,
-        };
-    }
-    if room <= n {
-        return Walked::Stopped {
-            number: refusal::EVENTS,
-            place,
-            count: n,
-        };
+        return x.refusal as usize;
     }
     let part = x.part;
+    if !is_seen_text(doc, out, n, x) {
+        let byte = texts::break_or(doc, part, 0);
+        return 16 + byte;
+    }
+    if room <= n {
+        return 12;
+    }
     let at = 8 * n;
     out[at] = x.code;
     out[at + 5] = part.start;
     out[at + 6] = part.len;
     out[at + 7] = x.extra;
-    Walked::Done { count: n + 1 }
+    0
 }
 
 // The path of an event whose value was listed.
@@ -229,24 +216,27 @@ fn leads_at(out: &[u32], n: usize) -> Leads
     })
 }
 
-// An entry that was not listed leads to nothing.
-fn unlisted(own: Walked) -> Child
-    ensures { λ r. ⌜ r ≡ leadless own ⌝ }
+fn stopped(number: u8, place: usize, count: usize) -> Child
+    ensures { λ r. ⌜ r ≡ stoppedAt number place count ⌝ }
 {
     Child {
-        own,
+        own: Walked::Stopped {
+            number,
+            place,
+            count,
+        },
         leads: Leads::Nothing,
     }
 }
 
-fn stopped(number: u8, place: usize, count: usize) -> Child
-    ensures { λ r. ⌜ r ≡ leadless (Stopped number place count) ⌝ }
+// The same by what a listing answered: a number, whose place is the entry's, or where a string breaks.
+fn stopped_by(code: usize, place: usize, count: usize) -> Child
+    ensures { λ r. ⌜ r ≡ stoppedBy code place count ⌝ }
 {
-    unlisted(Walked::Stopped {
-        number,
-        place,
-        count,
-    })
+    if code < 16 {
+        return stopped(code as u8, place, count);
+    }
+    stopped(refusal::UTF8, code - 16, count)
 }
 
 // Lists element i of an array, which has no key.
@@ -264,13 +254,13 @@ fn list_element(
 {
     let k = as_kind(false, v);
     let place = v.start as usize + k.value_place(v.count, i);
-    let own = list_entry(doc, out, n, k.large, v.start, v.size, place, room);
-    let Walked::Done { count: _ } = own else {
-        return unlisted(own);
-    };
+    let code = list_entry(doc, out, n, k.large, v.start, v.size, place, room);
+    if code != 0 {
+        return stopped_by(code, place, n);
+    }
     put_path(out, n, depth, i, Span { start: 0, len: 0 });
     Child {
-        own,
+        own: Walked::Done { count: n + 1 },
         leads: leads_at(out, n),
     }
 }
@@ -293,18 +283,18 @@ fn list_member(
     let key_place = v.start as usize + k.key_place(i);
     match key_at(doc, v, key_place) {
         Part::Bytes(key) => {
-            let text = key_text(doc, out, n, key);
-            if let Utf8Check::Bad(byte) = text {
+            if !is_key(doc, out, n, key) {
+                let byte = texts::break_or(doc, key, key_place);
                 return stopped(refusal::UTF8, byte, n);
             }
             let place = v.start as usize + k.value_place(v.count, i);
-            let own = list_entry(doc, out, n, k.large, v.start, v.size, place, room);
-            let Walked::Done { count: _ } = own else {
-                return unlisted(own);
-            };
+            let code = list_entry(doc, out, n, k.large, v.start, v.size, place, room);
+            if code != 0 {
+                return stopped_by(code, place, n);
+            }
             put_path(out, n, depth, i, key);
             Child {
-                own,
+                own: Walked::Done { count: n + 1 },
                 leads: leads_at(out, n),
             }
         }

@@ -45,7 +45,7 @@ counted-bad k (Bad q) {p} e = let z : k + q ≡ p = cc in record { own = q; is =
 
 module _ (d : List ℕ) (s : Span) where
   abbrev said : Bool → Utf8Check
-  said b = cond b (Bad (length d)) (answer (verdictFrom (s .start) (bytes d s)))
+  said b = cond b (Bad (s .start)) (answer (verdictFrom (s .start) (bytes d s)))
 
   -- of a part that lies in the document
   inside-text : s .start + s .len ≤ length d → textAt d s ≡ countedFrom (s .start) (checked (bytes d s))

@@ -1,7 +1,7 @@
 -- An element has no key; what is seen of it is what its listing says.
 -- Assumes nothing.
-use Rattle.root_event.proofs.Cases.{no-key-text}
-use Rattle.walk.proofs.Cases.{element-key, entry-stopped, entry-open, entry-listed}
+use Rattle.texts.proofs.Cases.{no-key-text}
+use Rattle.walk.proofs.Cases.{element-key, entry-stopped, entry-small, entry-open, entry-listed}
 use Rattle.layout.specs.declared.Kind.{Kind}
 use Rattle.layout.specs.Layout.{valuePlace}
 use native.Mathlib.Omega.{arith}
@@ -18,7 +18,7 @@ use Rattle.walk.proofs.as_kind.Reads as as-kind-reads
 use Rattle.walk.proofs.leads_at.Reads as leads-at-reads
 use Rattle.walk.proofs.list_entry.Reads as list-entry-reads
 use Rattle.walk.proofs.put_path.Reads as put-path-reads
-use Rattle.walk.proofs.unlisted.Reads as unlisted-reads
+use Rattle.walk.proofs.stopped_by.Reads as stopped-by-reads
 
 as-kind-requires : tie.Need-as-kind-requires
 as-kind-requires c κs = search needs
@@ -35,52 +35,54 @@ add-place c = search needs
 list-entry-requires : tie.Need-list-entry-requires
 list-entry-requires c κs = search needs
 
-enum-told : tie.Need-enum-told
-enum-told c = search needs
-
-enum-told-2 : tie.Need-enum-told-2
-enum-told-2 c = search needs
-
-unlisted-requires : tie.Need-unlisted-requires
-unlisted-requires c κs = search needs
+stopped-by-requires : tie.Need-stopped-by-requires
+stopped-by-requires c κs = search needs
 
 same-length : tie.Need-same-length
 same-length c = search needs
 
 returns : tie.Need-returns
 returns c =
-    let a = c .before .before .before .before .before .before .before .before .before .before .before .before .args in
+    let a = c .before .before .before .before .before .before .before .before .before .before .before .args in
     let d = now (a .doc) in
     let v = a .v in
-    let place = ap (λ (q : ℕ). v .start + q) (c .before .before .before .before .before .before .before .value-place .ensures .0 ∙ ap (λ (k : Kind). valuePlace k (v .count) (a .i)) (c .before .before .before .before .before .before .before .before .before .as-kind .ensures)) in
-    entry-stopped d v (a .i) (a .depth) (now (a .out)) (a .n) (record { start = 0; len = 0 }) (element-key d v (a .i) (c .before .before .before .before .before .before .before .before .before .before .before .before .pre .0)) (no-key-text d) (c .before .before .before .before .before .before .before .before .before .as-kind .ensures) place (c .before .before .before .before .before .list-entry .ensures .0) (c .before .before .before .before .before .list-entry .ensures .1) (c .before .enum-told2 .given .1) (c .unlisted .ensures)
+    let place = ap (λ (q : ℕ). v .start + q) (c .before .before .before .before .before .before .value-place .ensures .0 ∙ ap (λ (k : Kind). valuePlace k (v .count) (a .i)) (c .before .before .before .before .before .before .before .before .as-kind .ensures)) in
+    entry-stopped d v (a .i) (a .depth) (now (a .out)) (a .n) (record { start = 0; len = 0 }) (element-key d v (a .i) (c .before .before .before .before .before .before .before .before .before .before .before .pre .0)) (no-key-text d) (c .before .before .before .before .before .before .before .before .as-kind .ensures) place (c .before .before .before .before .list-entry .ensures .0) (c .before .before .before .before .list-entry .ensures .1) (c .before .if1 .taken) (c .stopped-by .ensures)
 
 put-path-requires : tie.Need-put-path-requires
 put-path-requires c κs =
-    let a = c .before .before .before .before .before .before .before .before .before .before .before .before .args in
+    let a = c .before .before .before .before .before .before .before .before .before .before .before .args in
     let d = now (a .doc) in
     let v = a .v in
-    let place = ap (λ (q : ℕ). v .start + q) (c .before .before .before .before .before .before .before .value-place .ensures .0 ∙ ap (λ (k : Kind). valuePlace k (v .count) (a .i)) (c .before .before .before .before .before .before .before .before .before .as-kind .ensures)) in
-    entry-open d v (a .i) (a .depth) (now (a .out)) (a .n) (record { start = 0; len = 0 }) (element-key d v (a .i) (c .before .before .before .before .before .before .before .before .before .before .before .before .pre .0)) (no-key-text d) (c .before .before .before .before .before .before .before .before .before .as-kind .ensures) place (c .before .before .before .before .before .list-entry .ensures .0) (c .before .before .before .before .before .list-entry .ensures .1) (c .before .enum-told .given .1)
+    let place = ap (λ (q : ℕ). v .start + q) (c .before .before .before .before .before .before .value-place .ensures .0 ∙ ap (λ (k : Kind). valuePlace k (v .count) (a .i)) (c .before .before .before .before .before .before .before .before .as-kind .ensures)) in
+    entry-open d v (a .i) (a .depth) (now (a .out)) (a .n) (record { start = 0; len = 0 }) (element-key d v (a .i) (c .before .before .before .before .before .before .before .before .before .before .before .pre .0)) (no-key-text d) (c .before .before .before .before .before .before .before .before .as-kind .ensures) place (c .before .before .before .before .list-entry .ensures .0) (c .before .before .before .before .list-entry .ensures .1) (c .before .if1 .left)
+
+add-t11 : tie.Need-add-t11
+add-t11 c =
+    let a = c .before .before .before .before .before .before .before .before .before .before .before .before .before .before .args in
+    let d = now (a .doc) in
+    let v = a .v in
+    let place = ap (λ (q : ℕ). v .start + q) (c .before .before .before .before .before .before .before .before .before .value-place .ensures .0 ∙ ap (λ (k : Kind). valuePlace k (v .count) (a .i)) (c .before .before .before .before .before .before .before .before .before .before .before .as-kind .ensures)) in
+    omega (arith, entry-small d v (a .i) (a .depth) (now (a .out)) (a .n) (record { start = 0; len = 0 }) (element-key d v (a .i) (c .before .before .before .before .before .before .before .before .before .before .before .before .before .before .pre .0)) (no-key-text d) (c .before .before .before .before .before .before .before .before .before .before .before .as-kind .ensures) place (c .before .before .before .before .before .before .before .list-entry .ensures .0) (c .before .before .before .before .before .before .before .list-entry .ensures .1) (c .before .before .before .before .if1 .left))
 
 leads-at-requires : tie.Need-leads-at-requires
 leads-at-requires c κs =
-    let a = c .before .before .before .before .before .before .before .before .before .before .before .before .before .before .before .before .args in
+    let a = c .before .before .before .before .before .before .before .before .before .before .before .before .before .before .before .args in
     let d = now (a .doc) in
     let v = a .v in
-    let place = ap (λ (q : ℕ). v .start + q) (c .before .before .before .before .before .before .before .before .before .before .before .value-place .ensures .0 ∙ ap (λ (k : Kind). valuePlace k (v .count) (a .i)) (c .before .before .before .before .before .before .before .before .before .before .before .before .before .as-kind .ensures)) in
-    omega (arith, entry-open d v (a .i) (a .depth) (now (a .out)) (a .n) (record { start = 0; len = 0 }) (element-key d v (a .i) (c .before .before .before .before .before .before .before .before .before .before .before .before .before .before .before .before .pre .0)) (no-key-text d) (c .before .before .before .before .before .before .before .before .before .before .before .before .before .as-kind .ensures) place (c .before .before .before .before .before .before .before .before .before .list-entry .ensures .0) (c .before .before .before .before .before .before .before .before .before .list-entry .ensures .1) (c .before .before .before .before .before .enum-told .given .1), c .before .before .before .put-path .kept .0)
+    let place = ap (λ (q : ℕ). v .start + q) (c .before .before .before .before .before .before .before .before .before .before .value-place .ensures .0 ∙ ap (λ (k : Kind). valuePlace k (v .count) (a .i)) (c .before .before .before .before .before .before .before .before .before .before .before .before .as-kind .ensures)) in
+    omega (arith, entry-open d v (a .i) (a .depth) (now (a .out)) (a .n) (record { start = 0; len = 0 }) (element-key d v (a .i) (c .before .before .before .before .before .before .before .before .before .before .before .before .before .before .before .pre .0)) (no-key-text d) (c .before .before .before .before .before .before .before .before .before .before .before .before .as-kind .ensures) place (c .before .before .before .before .before .before .before .before .list-entry .ensures .0) (c .before .before .before .before .before .before .before .before .list-entry .ensures .1) (c .before .before .before .before .before .if1 .left), c .before .before .before .put-path .kept .0)
 
 same-length-2 : tie.Need-same-length-2
 same-length-2 c = search needs
 
 returns-2 : tie.Need-returns-2
 returns-2 c =
-    let a = c .before .before .before .before .before .before .before .before .before .before .before .before .before .before .before .before .before .args in
+    let a = c .before .before .before .before .before .before .before .before .before .before .before .before .before .before .before .before .args in
     let d = now (a .doc) in
     let v = a .v in
-    let place = ap (λ (q : ℕ). v .start + q) (c .before .before .before .before .before .before .before .before .before .before .before .before .value-place .ensures .0 ∙ ap (λ (k : Kind). valuePlace k (v .count) (a .i)) (c .before .before .before .before .before .before .before .before .before .before .before .before .before .before .as-kind .ensures)) in
-    entry-listed d v (a .i) (a .depth) (now (a .out)) (a .n) (record { start = 0; len = 0 }) (element-key d v (a .i) (c .before .before .before .before .before .before .before .before .before .before .before .before .before .before .before .before .before .pre .0)) (no-key-text d) (c .before .before .before .before .before .before .before .before .before .before .before .before .before .before .as-kind .ensures) place (c .before .before .before .before .before .before .before .before .before .before .list-entry .ensures .0) (c .before .before .before .before .before .before .before .before .before .before .list-entry .ensures .1) (c .before .before .before .before .before .before .enum-told .given .1) (c .before .before .before .before .put-path .ensures) (c .leads-at .ensures)
+    let place = ap (λ (q : ℕ). v .start + q) (c .before .before .before .before .before .before .before .before .before .before .before .value-place .ensures .0 ∙ ap (λ (k : Kind). valuePlace k (v .count) (a .i)) (c .before .before .before .before .before .before .before .before .before .before .before .before .before .as-kind .ensures)) in
+    entry-listed d v (a .i) (a .depth) (now (a .out)) (a .n) (record { start = 0; len = 0 }) (element-key d v (a .i) (c .before .before .before .before .before .before .before .before .before .before .before .before .before .before .before .before .pre .0)) (no-key-text d) (c .before .before .before .before .before .before .before .before .before .before .before .before .before .as-kind .ensures) place (c .before .before .before .before .before .before .before .before .before .list-entry .ensures .0) (c .before .before .before .before .before .before .before .before .before .list-entry .ensures .1) (c .before .before .before .before .before .before .if1 .left) (c .before .before .before .before .put-path .ensures) (c .leads-at .ensures)
 
 pub list-element-spec : {M : Type 1} → statement M
 list-element-spec =
@@ -91,12 +93,11 @@ list-element-spec =
     value-place-requires
     add-place
     list-entry-requires
-    enum-told
-    enum-told-2
-    unlisted-requires
+    stopped-by-requires
     same-length
     returns
     put-path-requires
+    add-t11
     leads-at-requires
     same-length-2
     returns-2)

@@ -1,11 +1,13 @@
 -- The order is the definition's: a key that is refused, at its entry's place, a key that breaks, where it breaks, and then the value.
 -- Assumes nothing.
-use Rattle.walk.proofs.Cases.{member-key, key-within, key-bad, key-refused, entry-stopped, entry-open, entry-listed}
+use Rattle.texts.proofs.Cases.{valid-so}
+use Rattle.walk.proofs.Cases.{member-key, key-within, key-bad, key-refused, entry-stopped, entry-small, entry-open, entry-listed}
 use Rattle.gate.specs.Said.{partSaid}
 use Rattle.entry.specs.Entries.{endOf}
 use Rattle.header.specs.Course.{Within}
 use Rattle.layout.specs.declared.Kind.{Kind}
 use Rattle.layout.specs.Layout.{keyEntry, keyPlace, valuePlace}
+use borrow.Author.Tests.{not-true, not-false}
 use lib.ListN.{length}
 use native.Mathlib.Omega.{arith}
 use Prim.Native.Nat.{ℕ, _+_}
@@ -18,14 +20,15 @@ use Rattle.walk.proofs.list_member.Reads as reads
 use Rattle.walk.proofs.list_member.Lts as lts
 use Rattle.layout.proofs.Kind.key_place.Reads as key-place-reads
 use Rattle.layout.proofs.Kind.value_place.Reads as value-place-reads
+use Rattle.texts.proofs.break_or.Reads as break-or-reads
 use Rattle.walk.proofs.as_kind.Reads as as-kind-reads
+use Rattle.walk.proofs.is_key.Reads as is-key-reads
 use Rattle.walk.proofs.key_at.Reads as key-at-reads
-use Rattle.walk.proofs.key_text.Reads as key-text-reads
 use Rattle.walk.proofs.leads_at.Reads as leads-at-reads
 use Rattle.walk.proofs.list_entry.Reads as list-entry-reads
 use Rattle.walk.proofs.put_path.Reads as put-path-reads
 use Rattle.walk.proofs.stopped.Reads as stopped-reads
-use Rattle.walk.proofs.unlisted.Reads as unlisted-reads
+use Rattle.walk.proofs.stopped_by.Reads as stopped-by-reads
 
 as-kind-requires : tie.Need-as-kind-requires
 as-kind-requires c κs = search needs
@@ -50,11 +53,11 @@ key-at-requires c κs =
 enum-known-key : tie.Need-enum-known-key
 enum-known-key c = search needs
 
-key-text-requires : tie.Need-key-text-requires
-key-text-requires c κs = search needs
+is-key-requires : tie.Need-is-key-requires
+is-key-requires c κs = search needs
 
-enum-known-text : tie.Need-enum-known-text
-enum-known-text c = search needs
+break-or-requires : tie.Need-break-or-requires
+break-or-requires c κs = search needs
 
 stopped-requires : tie.Need-stopped-requires
 stopped-requires c κs = search needs
@@ -64,15 +67,12 @@ same-length c = search needs
 
 returns : tie.Need-returns
 returns c =
-    let a = c .before .before .before .before .before .before .before .before .before .before .before .before .before .before .before .args in
+    let a = c .before .before .before .before .before .before .before .before .before .before .before .before .before .before .args in
     let d = now (a .doc) in
     let v = a .v in
-    let key-place = ap (λ (q : ℕ). v .start + q) (c .before .before .before .before .before .before .before .before .before .before .key-place .ensures .0 ∙ ap (λ (k : Kind). keyPlace k (a .i)) (c .before .before .before .before .before .before .before .before .before .before .before .before .as-kind .ensures)) in
-    let key = member-key d v (a .i) (c .before .before .before .before .before .before .before .before .before .before .before .before .before .before .before .pre .1 .0) (c .before .before .before .before .before .before .before .before .before .before .before .before .before .before .before .pre .1 .1) key-place (c .before .before .before .before .before .before .before .before .before .key-at .ensures) (c .before .before .before .before .before .before .before .before .before .before .before .before .before .before .before .pre .0 .0) in
-    key-bad d v (a .i) (a .depth) (now (a .out)) (a .n) _ key (c .before .before .before .before .before .before .before .key .given .1) (c .before .before .before .before .key-text .ensures) (c .before .before .text .given .1) (c .stopped .ensures)
-
-enum-told : tie.Need-enum-told
-enum-told c = search needs
+    let key-place = ap (λ (q : ℕ). v .start + q) (c .before .before .before .before .before .before .before .before .before .key-place .ensures .0 ∙ ap (λ (k : Kind). keyPlace k (a .i)) (c .before .before .before .before .before .before .before .before .before .before .before .as-kind .ensures)) in
+    let key = member-key d v (a .i) (c .before .before .before .before .before .before .before .before .before .before .before .before .before .before .pre .1 .0) (c .before .before .before .before .before .before .before .before .before .before .before .before .before .before .pre .1 .1) key-place (c .before .before .before .before .before .before .before .before .key-at .ensures) (c .before .before .before .before .before .before .before .before .before .before .before .before .before .before .pre .0 .0) in
+    key-bad d v (a .i) (a .depth) (now (a .out)) (a .n) _ key _ (c .before .before .before .before .before .before .key .given .1) (c .before .before .before .is-key .ensures) (not-true _ (c .before .before .if1 .taken)) (c .before .break-or .ensures) (c .stopped .ensures)
 
 cast-place : tie.Need-cast-place
 cast-place c = search needs
@@ -86,47 +86,51 @@ add-place c = search needs
 list-entry-requires : tie.Need-list-entry-requires
 list-entry-requires c κs = search needs
 
-enum-told-2 : tie.Need-enum-told-2
-enum-told-2 c = search needs
-
-enum-told-3 : tie.Need-enum-told-3
-enum-told-3 c = search needs
-
-unlisted-requires : tie.Need-unlisted-requires
-unlisted-requires c κs = search needs
+stopped-by-requires : tie.Need-stopped-by-requires
+stopped-by-requires c κs = search needs
 
 same-length-2 : tie.Need-same-length-2
 same-length-2 c = search needs
 
 returns-2 : tie.Need-returns-2
 returns-2 c =
-    let a = c .before .before .before .before .before .before .before .before .before .before .before .before .before .before .before .before .before .before .before .before .before .before .args in
+    let a = c .before .before .before .before .before .before .before .before .before .before .before .before .before .before .before .before .before .before .before .before .args in
     let d = now (a .doc) in
     let v = a .v in
-    let key-place = ap (λ (q : ℕ). v .start + q) (c .before .before .before .before .before .before .before .before .before .before .before .before .before .before .before .before .before .key-place .ensures .0 ∙ ap (λ (k : Kind). keyPlace k (a .i)) (c .before .before .before .before .before .before .before .before .before .before .before .before .before .before .before .before .before .before .before .as-kind .ensures)) in
-    let key = member-key d v (a .i) (c .before .before .before .before .before .before .before .before .before .before .before .before .before .before .before .before .before .before .before .before .before .before .pre .1 .0) (c .before .before .before .before .before .before .before .before .before .before .before .before .before .before .before .before .before .before .before .before .before .before .pre .1 .1) key-place (c .before .before .before .before .before .before .before .before .before .before .before .before .before .before .before .before .key-at .ensures) (c .before .before .before .before .before .before .before .before .before .before .before .before .before .before .before .before .before .before .before .before .before .before .pre .0 .0) in
-    let place = ap (λ (q : ℕ). v .start + q) (c .before .before .before .before .before .before .before .value-place .ensures .0 ∙ ap (λ (k : Kind). valuePlace k (v .count) (a .i)) (c .before .before .before .before .before .before .before .before .before .before .before .before .before .before .before .before .before .before .before .as-kind .ensures)) in
-    entry-stopped d v (a .i) (a .depth) (now (a .out)) (a .n) _ (key ∙ ap partSaid (c .before .before .before .before .before .before .before .before .before .before .before .before .before .before .key .given .1)) (sym (c .before .before .before .before .before .before .before .before .before .before .before .key-text .ensures) ∙ c .before .before .before .before .before .before .before .before .before .enum-told .given .1) (c .before .before .before .before .before .before .before .before .before .before .before .before .before .before .before .before .before .before .before .as-kind .ensures) place (c .before .before .before .before .before .list-entry .ensures .0) (c .before .before .before .before .before .list-entry .ensures .1) (c .before .enum-told3 .given .1) (c .unlisted .ensures)
+    let key-place = ap (λ (q : ℕ). v .start + q) (c .before .before .before .before .before .before .before .before .before .before .before .before .before .before .before .key-place .ensures .0 ∙ ap (λ (k : Kind). keyPlace k (a .i)) (c .before .before .before .before .before .before .before .before .before .before .before .before .before .before .before .before .before .as-kind .ensures)) in
+    let key = member-key d v (a .i) (c .before .before .before .before .before .before .before .before .before .before .before .before .before .before .before .before .before .before .before .before .pre .1 .0) (c .before .before .before .before .before .before .before .before .before .before .before .before .before .before .before .before .before .before .before .before .pre .1 .1) key-place (c .before .before .before .before .before .before .before .before .before .before .before .before .before .before .key-at .ensures) (c .before .before .before .before .before .before .before .before .before .before .before .before .before .before .before .before .before .before .before .before .pre .0 .0) in
+    let place = ap (λ (q : ℕ). v .start + q) (c .before .before .before .before .before .before .value-place .ensures .0 ∙ ap (λ (k : Kind). valuePlace k (v .count) (a .i)) (c .before .before .before .before .before .before .before .before .before .before .before .before .before .before .before .before .before .as-kind .ensures)) in
+    entry-stopped d v (a .i) (a .depth) (now (a .out)) (a .n) _ (key ∙ ap partSaid (c .before .before .before .before .before .before .before .before .before .before .before .before .key .given .1)) (valid-so _ (sym (c .before .before .before .before .before .before .before .before .before .is-key .ensures) ∙ not-false _ (c .before .before .before .before .before .before .before .before .if1 .left))) (c .before .before .before .before .before .before .before .before .before .before .before .before .before .before .before .before .before .as-kind .ensures) place (c .before .before .before .before .list-entry .ensures .0) (c .before .before .before .before .list-entry .ensures .1) (c .before .if2 .taken) (c .stopped-by .ensures)
 
 put-path-requires : tie.Need-put-path-requires
 put-path-requires c κs =
-    let a = c .before .before .before .before .before .before .before .before .before .before .before .before .before .before .before .before .before .before .before .before .before .before .args in
+    let a = c .before .before .before .before .before .before .before .before .before .before .before .before .before .before .before .before .before .before .before .before .args in
     let d = now (a .doc) in
     let v = a .v in
-    let key-place = ap (λ (q : ℕ). v .start + q) (c .before .before .before .before .before .before .before .before .before .before .before .before .before .before .before .before .before .key-place .ensures .0 ∙ ap (λ (k : Kind). keyPlace k (a .i)) (c .before .before .before .before .before .before .before .before .before .before .before .before .before .before .before .before .before .before .before .as-kind .ensures)) in
-    let key = member-key d v (a .i) (c .before .before .before .before .before .before .before .before .before .before .before .before .before .before .before .before .before .before .before .before .before .before .pre .1 .0) (c .before .before .before .before .before .before .before .before .before .before .before .before .before .before .before .before .before .before .before .before .before .before .pre .1 .1) key-place (c .before .before .before .before .before .before .before .before .before .before .before .before .before .before .before .before .key-at .ensures) (c .before .before .before .before .before .before .before .before .before .before .before .before .before .before .before .before .before .before .before .before .before .before .pre .0 .0) in
-    let place = ap (λ (q : ℕ). v .start + q) (c .before .before .before .before .before .before .before .value-place .ensures .0 ∙ ap (λ (k : Kind). valuePlace k (v .count) (a .i)) (c .before .before .before .before .before .before .before .before .before .before .before .before .before .before .before .before .before .before .before .as-kind .ensures)) in
-    entry-open d v (a .i) (a .depth) (now (a .out)) (a .n) _ (key ∙ ap partSaid (c .before .before .before .before .before .before .before .before .before .before .before .before .before .before .key .given .1)) (sym (c .before .before .before .before .before .before .before .before .before .before .before .key-text .ensures) ∙ c .before .before .before .before .before .before .before .before .before .enum-told .given .1) (c .before .before .before .before .before .before .before .before .before .before .before .before .before .before .before .before .before .before .before .as-kind .ensures) place (c .before .before .before .before .before .list-entry .ensures .0) (c .before .before .before .before .before .list-entry .ensures .1) (c .before .enum-told2 .given .1)
+    let key-place = ap (λ (q : ℕ). v .start + q) (c .before .before .before .before .before .before .before .before .before .before .before .before .before .before .before .key-place .ensures .0 ∙ ap (λ (k : Kind). keyPlace k (a .i)) (c .before .before .before .before .before .before .before .before .before .before .before .before .before .before .before .before .before .as-kind .ensures)) in
+    let key = member-key d v (a .i) (c .before .before .before .before .before .before .before .before .before .before .before .before .before .before .before .before .before .before .before .before .pre .1 .0) (c .before .before .before .before .before .before .before .before .before .before .before .before .before .before .before .before .before .before .before .before .pre .1 .1) key-place (c .before .before .before .before .before .before .before .before .before .before .before .before .before .before .key-at .ensures) (c .before .before .before .before .before .before .before .before .before .before .before .before .before .before .before .before .before .before .before .before .pre .0 .0) in
+    let place = ap (λ (q : ℕ). v .start + q) (c .before .before .before .before .before .before .value-place .ensures .0 ∙ ap (λ (k : Kind). valuePlace k (v .count) (a .i)) (c .before .before .before .before .before .before .before .before .before .before .before .before .before .before .before .before .before .as-kind .ensures)) in
+    entry-open d v (a .i) (a .depth) (now (a .out)) (a .n) _ (key ∙ ap partSaid (c .before .before .before .before .before .before .before .before .before .before .before .before .key .given .1)) (valid-so _ (sym (c .before .before .before .before .before .before .before .before .before .is-key .ensures) ∙ not-false _ (c .before .before .before .before .before .before .before .before .if1 .left))) (c .before .before .before .before .before .before .before .before .before .before .before .before .before .before .before .before .before .as-kind .ensures) place (c .before .before .before .before .list-entry .ensures .0) (c .before .before .before .before .list-entry .ensures .1) (c .before .if2 .left)
+
+add-t24 : tie.Need-add-t24
+add-t24 c =
+    let a = c .before .before .before .before .before .before .before .before .before .before .before .before .before .before .before .before .before .before .before .before .before .before .before .args in
+    let d = now (a .doc) in
+    let v = a .v in
+    let key-place = ap (λ (q : ℕ). v .start + q) (c .before .before .before .before .before .before .before .before .before .before .before .before .before .before .before .before .before .before .key-place .ensures .0 ∙ ap (λ (k : Kind). keyPlace k (a .i)) (c .before .before .before .before .before .before .before .before .before .before .before .before .before .before .before .before .before .before .before .before .as-kind .ensures)) in
+    let key = member-key d v (a .i) (c .before .before .before .before .before .before .before .before .before .before .before .before .before .before .before .before .before .before .before .before .before .before .before .pre .1 .0) (c .before .before .before .before .before .before .before .before .before .before .before .before .before .before .before .before .before .before .before .before .before .before .before .pre .1 .1) key-place (c .before .before .before .before .before .before .before .before .before .before .before .before .before .before .before .before .before .key-at .ensures) (c .before .before .before .before .before .before .before .before .before .before .before .before .before .before .before .before .before .before .before .before .before .before .before .pre .0 .0) in
+    let place = ap (λ (q : ℕ). v .start + q) (c .before .before .before .before .before .before .before .before .before .value-place .ensures .0 ∙ ap (λ (k : Kind). valuePlace k (v .count) (a .i)) (c .before .before .before .before .before .before .before .before .before .before .before .before .before .before .before .before .before .before .before .before .as-kind .ensures)) in
+    omega (arith, entry-small d v (a .i) (a .depth) (now (a .out)) (a .n) _ (key ∙ ap partSaid (c .before .before .before .before .before .before .before .before .before .before .before .before .before .before .before .key .given .1)) (valid-so _ (sym (c .before .before .before .before .before .before .before .before .before .before .before .before .is-key .ensures) ∙ not-false _ (c .before .before .before .before .before .before .before .before .before .before .before .if1 .left))) (c .before .before .before .before .before .before .before .before .before .before .before .before .before .before .before .before .before .before .before .before .as-kind .ensures) place (c .before .before .before .before .before .before .before .list-entry .ensures .0) (c .before .before .before .before .before .before .before .list-entry .ensures .1) (c .before .before .before .before .if2 .left))
 
 leads-at-requires : tie.Need-leads-at-requires
 leads-at-requires c κs =
-    let a = c .before .before .before .before .before .before .before .before .before .before .before .before .before .before .before .before .before .before .before .before .before .before .before .before .before .before .args in
+    let a = c .before .before .before .before .before .before .before .before .before .before .before .before .before .before .before .before .before .before .before .before .before .before .before .before .args in
     let d = now (a .doc) in
     let v = a .v in
-    let key-place = ap (λ (q : ℕ). v .start + q) (c .before .before .before .before .before .before .before .before .before .before .before .before .before .before .before .before .before .before .before .before .before .key-place .ensures .0 ∙ ap (λ (k : Kind). keyPlace k (a .i)) (c .before .before .before .before .before .before .before .before .before .before .before .before .before .before .before .before .before .before .before .before .before .before .before .as-kind .ensures)) in
-    let key = member-key d v (a .i) (c .before .before .before .before .before .before .before .before .before .before .before .before .before .before .before .before .before .before .before .before .before .before .before .before .before .before .pre .1 .0) (c .before .before .before .before .before .before .before .before .before .before .before .before .before .before .before .before .before .before .before .before .before .before .before .before .before .before .pre .1 .1) key-place (c .before .before .before .before .before .before .before .before .before .before .before .before .before .before .before .before .before .before .before .before .key-at .ensures) (c .before .before .before .before .before .before .before .before .before .before .before .before .before .before .before .before .before .before .before .before .before .before .before .before .before .before .pre .0 .0) in
-    let place = ap (λ (q : ℕ). v .start + q) (c .before .before .before .before .before .before .before .before .before .before .before .value-place .ensures .0 ∙ ap (λ (k : Kind). valuePlace k (v .count) (a .i)) (c .before .before .before .before .before .before .before .before .before .before .before .before .before .before .before .before .before .before .before .before .before .before .before .as-kind .ensures)) in
-    omega (arith, entry-open d v (a .i) (a .depth) (now (a .out)) (a .n) _ (key ∙ ap partSaid (c .before .before .before .before .before .before .before .before .before .before .before .before .before .before .before .before .before .before .key .given .1)) (sym (c .before .before .before .before .before .before .before .before .before .before .before .before .before .before .before .key-text .ensures) ∙ c .before .before .before .before .before .before .before .before .before .before .before .before .before .enum-told .given .1) (c .before .before .before .before .before .before .before .before .before .before .before .before .before .before .before .before .before .before .before .before .before .before .before .as-kind .ensures) place (c .before .before .before .before .before .before .before .before .before .list-entry .ensures .0) (c .before .before .before .before .before .before .before .before .before .list-entry .ensures .1) (c .before .before .before .before .before .enum-told2 .given .1), c .before .before .before .put-path .kept .0)
+    let key-place = ap (λ (q : ℕ). v .start + q) (c .before .before .before .before .before .before .before .before .before .before .before .before .before .before .before .before .before .before .before .key-place .ensures .0 ∙ ap (λ (k : Kind). keyPlace k (a .i)) (c .before .before .before .before .before .before .before .before .before .before .before .before .before .before .before .before .before .before .before .before .before .as-kind .ensures)) in
+    let key = member-key d v (a .i) (c .before .before .before .before .before .before .before .before .before .before .before .before .before .before .before .before .before .before .before .before .before .before .before .before .pre .1 .0) (c .before .before .before .before .before .before .before .before .before .before .before .before .before .before .before .before .before .before .before .before .before .before .before .before .pre .1 .1) key-place (c .before .before .before .before .before .before .before .before .before .before .before .before .before .before .before .before .before .before .key-at .ensures) (c .before .before .before .before .before .before .before .before .before .before .before .before .before .before .before .before .before .before .before .before .before .before .before .before .pre .0 .0) in
+    let place = ap (λ (q : ℕ). v .start + q) (c .before .before .before .before .before .before .before .before .before .before .value-place .ensures .0 ∙ ap (λ (k : Kind). valuePlace k (v .count) (a .i)) (c .before .before .before .before .before .before .before .before .before .before .before .before .before .before .before .before .before .before .before .before .before .as-kind .ensures)) in
+    omega (arith, entry-open d v (a .i) (a .depth) (now (a .out)) (a .n) _ (key ∙ ap partSaid (c .before .before .before .before .before .before .before .before .before .before .before .before .before .before .before .before .key .given .1)) (valid-so _ (sym (c .before .before .before .before .before .before .before .before .before .before .before .before .before .is-key .ensures) ∙ not-false _ (c .before .before .before .before .before .before .before .before .before .before .before .before .if1 .left))) (c .before .before .before .before .before .before .before .before .before .before .before .before .before .before .before .before .before .before .before .before .before .as-kind .ensures) place (c .before .before .before .before .before .before .before .before .list-entry .ensures .0) (c .before .before .before .before .before .before .before .before .list-entry .ensures .1) (c .before .before .before .before .before .if2 .left), c .before .before .before .put-path .kept .0)
 
 enum-known-number : tie.Need-enum-known-number
 enum-known-number c = search needs
@@ -139,13 +143,13 @@ same-length-3 c = search needs
 
 returns-3 : tie.Need-returns-3
 returns-3 c =
-    let a = c .before .before .before .before .before .before .before .before .before .before .before .before .before .before .before .before .before .before .before .before .before .before .before .before .before .before .before .args in
+    let a = c .before .before .before .before .before .before .before .before .before .before .before .before .before .before .before .before .before .before .before .before .before .before .before .before .before .args in
     let d = now (a .doc) in
     let v = a .v in
-    let key-place = ap (λ (q : ℕ). v .start + q) (c .before .before .before .before .before .before .before .before .before .before .before .before .before .before .before .before .before .before .before .before .before .before .key-place .ensures .0 ∙ ap (λ (k : Kind). keyPlace k (a .i)) (c .before .before .before .before .before .before .before .before .before .before .before .before .before .before .before .before .before .before .before .before .before .before .before .before .as-kind .ensures)) in
-    let key = member-key d v (a .i) (c .before .before .before .before .before .before .before .before .before .before .before .before .before .before .before .before .before .before .before .before .before .before .before .before .before .before .before .pre .1 .0) (c .before .before .before .before .before .before .before .before .before .before .before .before .before .before .before .before .before .before .before .before .before .before .before .before .before .before .before .pre .1 .1) key-place (c .before .before .before .before .before .before .before .before .before .before .before .before .before .before .before .before .before .before .before .before .before .key-at .ensures) (c .before .before .before .before .before .before .before .before .before .before .before .before .before .before .before .before .before .before .before .before .before .before .before .before .before .before .before .pre .0 .0) in
-    let place = ap (λ (q : ℕ). v .start + q) (c .before .before .before .before .before .before .before .before .before .before .before .before .value-place .ensures .0 ∙ ap (λ (k : Kind). valuePlace k (v .count) (a .i)) (c .before .before .before .before .before .before .before .before .before .before .before .before .before .before .before .before .before .before .before .before .before .before .before .before .as-kind .ensures)) in
-    entry-listed d v (a .i) (a .depth) (now (a .out)) (a .n) _ (key ∙ ap partSaid (c .before .before .before .before .before .before .before .before .before .before .before .before .before .before .before .before .before .before .before .key .given .1)) (sym (c .before .before .before .before .before .before .before .before .before .before .before .before .before .before .before .before .key-text .ensures) ∙ c .before .before .before .before .before .before .before .before .before .before .before .before .before .before .enum-told .given .1) (c .before .before .before .before .before .before .before .before .before .before .before .before .before .before .before .before .before .before .before .before .before .before .before .before .as-kind .ensures) place (c .before .before .before .before .before .before .before .before .before .before .list-entry .ensures .0) (c .before .before .before .before .before .before .before .before .before .before .list-entry .ensures .1) (c .before .before .before .before .before .before .enum-told2 .given .1) (c .before .before .before .before .put-path .ensures) (c .leads-at .ensures)
+    let key-place = ap (λ (q : ℕ). v .start + q) (c .before .before .before .before .before .before .before .before .before .before .before .before .before .before .before .before .before .before .before .before .key-place .ensures .0 ∙ ap (λ (k : Kind). keyPlace k (a .i)) (c .before .before .before .before .before .before .before .before .before .before .before .before .before .before .before .before .before .before .before .before .before .before .as-kind .ensures)) in
+    let key = member-key d v (a .i) (c .before .before .before .before .before .before .before .before .before .before .before .before .before .before .before .before .before .before .before .before .before .before .before .before .before .pre .1 .0) (c .before .before .before .before .before .before .before .before .before .before .before .before .before .before .before .before .before .before .before .before .before .before .before .before .before .pre .1 .1) key-place (c .before .before .before .before .before .before .before .before .before .before .before .before .before .before .before .before .before .before .before .key-at .ensures) (c .before .before .before .before .before .before .before .before .before .before .before .before .before .before .before .before .before .before .before .before .before .before .before .before .before .pre .0 .0) in
+    let place = ap (λ (q : ℕ). v .start + q) (c .before .before .before .before .before .before .before .before .before .before .before .value-place .ensures .0 ∙ ap (λ (k : Kind). valuePlace k (v .count) (a .i)) (c .before .before .before .before .before .before .before .before .before .before .before .before .before .before .before .before .before .before .before .before .before .before .as-kind .ensures)) in
+    entry-listed d v (a .i) (a .depth) (now (a .out)) (a .n) _ (key ∙ ap partSaid (c .before .before .before .before .before .before .before .before .before .before .before .before .before .before .before .before .before .key .given .1)) (valid-so _ (sym (c .before .before .before .before .before .before .before .before .before .before .before .before .before .before .is-key .ensures) ∙ not-false _ (c .before .before .before .before .before .before .before .before .before .before .before .before .before .if1 .left))) (c .before .before .before .before .before .before .before .before .before .before .before .before .before .before .before .before .before .before .before .before .before .before .as-kind .ensures) place (c .before .before .before .before .before .before .before .before .before .list-entry .ensures .0) (c .before .before .before .before .before .before .before .before .before .list-entry .ensures .1) (c .before .before .before .before .before .before .if2 .left) (c .before .before .before .before .put-path .ensures) (c .leads-at .ensures)
 
 returns-4 : tie.Need-returns-4
 returns-4 c =
@@ -166,22 +170,20 @@ list-member-spec =
     add-key-place
     key-at-requires
     enum-known-key
-    key-text-requires
-    enum-known-text
+    is-key-requires
+    break-or-requires
     stopped-requires
     same-length
     returns
-    enum-told
     cast-place
     value-place-requires
     add-place
     list-entry-requires
-    enum-told-2
-    enum-told-3
-    unlisted-requires
+    stopped-by-requires
     same-length-2
     returns-2
     put-path-requires
+    add-t24
     leads-at-requires
     enum-known-number
     stopped-requires-2

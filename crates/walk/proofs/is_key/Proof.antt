@@ -7,11 +7,11 @@ use denote.Ref.{now}
 use mathlib.Core.Path.{sym}
 use Rattle.walk.proofs.Tested.{same-text}
 use borrow.Author.Needs.{needs}
-use Rattle.walk.proofs.key_text.Statement.{statement}
-use Rattle.walk.proofs.key_text.Tie as tie
-use Rattle.walk.proofs.key_text.Reads as reads
-use Rattle.walk.proofs.key_text.Lts as lts
-use Rattle.texts.proofs.text_at.Reads as text-at-reads
+use Rattle.walk.proofs.is_key.Statement.{statement}
+use Rattle.walk.proofs.is_key.Tie as tie
+use Rattle.walk.proofs.is_key.Reads as reads
+use Rattle.walk.proofs.is_key.Lts as lts
+use Rattle.texts.proofs.is_text.Reads as is-text-reads
 
 mul-at : tie.Need-mul-at
 mul-at c = search needs
@@ -44,14 +44,14 @@ returns c =
     let o = now (a .out) in
     same-text (now (a .doc)) (span (getD o (at + 3) 0) (getD o (at + 4) 0)) (c .before .before .before .before .before .before .before .before .pre .key) (a .key) (sym (c .before .before .before .if1 .taken)) (sym (c .if2 .taken))
 
-text-at-requires : tie.Need-text-at-requires
-text-at-requires c κs = search needs
+is-text-requires : tie.Need-is-text-requires
+is-text-requires c κs = search needs
 
 returns-2 : tie.Need-returns-2
 returns-2 c = search needs
 
-pub key-text-spec : {M : Type 1} → statement M
-key-text-spec =
+pub is-key-spec : {M : Type 1} → statement M
+is-key-spec =
     tie.close
     (tie.spec
     mul-at
@@ -63,5 +63,5 @@ key-text-spec =
     mul-if2
     shared-slice-read-if2
     returns
-    text-at-requires
+    is-text-requires
     returns-2)

@@ -7,11 +7,11 @@ use denote.Ref.{now}
 use mathlib.Core.Path.{sym}
 use Rattle.walk.proofs.Tested.{same-text, seen-other, seen-string}
 use borrow.Author.Needs.{needs}
-use Rattle.walk.proofs.seen_text.Statement.{statement}
-use Rattle.walk.proofs.seen_text.Tie as tie
-use Rattle.walk.proofs.seen_text.Reads as reads
-use Rattle.walk.proofs.seen_text.Lts as lts
-use Rattle.texts.proofs.text_at.Reads as text-at-reads
+use Rattle.walk.proofs.is_seen_text.Statement.{statement}
+use Rattle.walk.proofs.is_seen_text.Tie as tie
+use Rattle.walk.proofs.is_seen_text.Reads as reads
+use Rattle.walk.proofs.is_seen_text.Lts as lts
+use Rattle.texts.proofs.is_text.Reads as is-text-reads
 
 returns : tie.Need-returns
 returns c = seen-other (now (c .before .before .before .before .args .doc)) (c .before .before .before .before .args .x) (c .if1 .taken)
@@ -54,14 +54,14 @@ returns-2 c =
     seen-string (now (a .doc)) (a .x) (c .before .before .before .before .before .before .before .before .before .if1 .left)
     (same-text (now (a .doc)) (span (getD o (at + 5) 0) (getD o (at + 6) 0)) (c .before .before .before .before .before .before .before .before .before .before .before .before .before .pre .text (c .if4 .taken)) (a .x .part) (sym (c .before .before .before .before .before .if2 .taken)) (sym (c .before .before .if3 .taken)))
 
-text-at-requires : tie.Need-text-at-requires
-text-at-requires c κs = search needs
+is-text-requires : tie.Need-is-text-requires
+is-text-requires c κs = search needs
 
 returns-3 : tie.Need-returns-3
-returns-3 c = seen-string (now (c .before .before .before .before .before .before .before .before .before .args .doc)) (c .before .before .before .before .before .before .before .before .before .args .x) (c .before .before .before .before .before .if1 .left) (c .text-at .ensures)
+returns-3 c = seen-string (now (c .before .before .before .before .before .before .before .before .before .args .doc)) (c .before .before .before .before .before .before .before .before .before .args .x) (c .before .before .before .before .before .if1 .left) (c .is-text .ensures)
 
-pub seen-text-spec : {M : Type 1} → statement M
-seen-text-spec =
+pub is-seen-text-spec : {M : Type 1} → statement M
+is-seen-text-spec =
     tie.close
     (tie.spec
     returns
@@ -76,5 +76,5 @@ seen-text-spec =
     mul-if4
     shared-slice-read-if4
     returns-2
-    text-at-requires
+    is-text-requires
     returns-3)
