@@ -12,7 +12,7 @@
  *
  * Every pointer is valid for as many items as the length after it says, and is not null, even where that is 0. What a function writes to
  * (answer, events, bytes, text) overlaps nothing else that is lent to the call, and no other thread touches it meanwhile. Nothing else is
- * asked: any bytes, any numbers and any lengths have their answer. No function keeps a pointer or allocates, and the walk needs some 32,400 bytes
+ * asked: any bytes, any numbers and any lengths have their answer. No function keeps a pointer or allocates, and the walk needs some 30,800 bytes
  * of stack at most.
  *
  * The rows
@@ -29,7 +29,9 @@
  *     8 container    c   start       size         count    c is 0 small object, 1 large object, 2 small array, 3 large array
  *   a key, 3 numbers: 1, start, length; or 0 0 0 for nothing
  *   a count, an order, a number of bytes or of characters, 1 number
- *   how a walk ended, 2 numbers: the count of events, and the place of the fault, which is 0 where there is none
+ *   how a walk ended, 2 numbers: the count of events, and the place of the fault, which is 0 where there is none. Of BRATTHELM_ERR_UTF8 it is the
+ *     byte of the document at which a key or string breaks, and the length of the document where a character is cut at its end; else the first
+ *     byte of the key entry for a key's fault, or of the value entry, and 0 at the root
  *   a decimal, 12 numbers: how many digits stand before the point and after it, sign (0, or 1 for a minus; handed in, any other number is a minus too), and
  *     nine groups: the digits, cut in nines from the point outwards, left to right; the last group of a fraction is filled with zeros to nine digits, unused
  *     groups are 0, and so is the sign of a zero. Numbers that you hand in and that are not so are refused by 26.

@@ -42,13 +42,14 @@ pub struct Event {
 #[derive(Debug, Clone, Copy, PartialEq, Eq)]
 pub struct Stopped {
     pub refusal: Refusal,
-    /// The first byte of the key entry for a key's fault, else of the value entry; 0 at the root and for refusal 1.
+    /// Of [`Refusal::Utf8`] the byte at which the key or string breaks, which is the document's length where a character is cut at its end. Of any
+    /// other the first byte of the key entry for a key's fault, else of the value entry; 0 at the root and for refusal 1.
     pub place: u32,
     /// How many events there are before it.
     pub count: u32,
 }
 
-/// `9: a key or a string is not UTF-8, at byte 9, after 1 events`.
+/// `9: a key or a string is not UTF-8, at byte 17, after 1 events`.
 impl fmt::Display for Stopped {
     fn fmt(&self, f: &mut fmt::Formatter<'_>) -> fmt::Result {
         write!(f, "{}, at byte {}, after {} events", self.refusal, self.place, self.count)
@@ -60,7 +61,7 @@ impl core::error::Error for Stopped {}
 /// Walks a document: 1 to 12. `events` has room for an event for each eight numbers; those behind the last event stay as they were.
 ///
 /// Many paths may lead to the same bytes, so a hostile document can fill any buffer: the length of `events` is what bounds the work. A walk takes
-/// some 32,400 bytes of stack at most, whatever the document.
+/// some 30,800 bytes of stack at most, whatever the document.
 pub fn walk<'e>(doc: &[u8], events: &'e mut [u32]) -> Walk<'e> {
     let mut row = [0; 2];
     let returned = calls::walk(doc, events, &mut row);

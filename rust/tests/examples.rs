@@ -123,7 +123,7 @@ fn zoe_damaged() {
     let root = vec![[0, 0, 0, 0, 0, 1, 17, 1]];
     let mut cut = bytes(ZOE);
     cut[17] = 0x22;
-    assert_eq!(walked(&cut, 2), (root.clone(), stopped(Refusal::Utf8, 9, 1)));
+    assert_eq!(walked(&cut, 2), (root.clone(), stopped(Refusal::Utf8, 17, 1)));
     assert!(Value::deserialize(&cut).unwrap().as_object().unwrap().elem_at(0).is_ok(), "the walk alone asks for UTF-8");
     let mut early = bytes(ZOE);
     early[5] = 0x0A;
@@ -132,7 +132,36 @@ fn zoe_damaged() {
     assert_eq!(object.key_at(0).unwrap_err(), Refusal::Key);
     assert!(object.elem_at(0).unwrap().is_some());
     let key = walked(&bytes("00 01 00 0C 00 0B 00 01 00 04 01 00 FF"), 2);
-    assert_eq!(key, (vec![[0, 0, 0, 0, 0, 1, 12, 1]], stopped(Refusal::Utf8, 5, 1)));
+    assert_eq!(key, (vec![[0, 0, 0, 0, 0, 1, 12, 1]], stopped(Refusal::Utf8, 12, 1)));
+}
+
+/// The byte of a break by the standard library's error, which begins with a character: its bytes that are right are passed over.
+fn break_of(text: &[u8]) -> Option<usize> {
+    let fault = std::str::from_utf8(text).err()?;
+    let begun = fault.valid_up_to();
+    Some(match fault.error_len() {
+        None => text.len(),
+        Some(len) if (0xC2..=0xF4).contains(&text[begun]) => begun + len,
+        Some(_) => begun,
+    })
+}
+
+#[test]
+fn texts_break_at_their_byte() {
+    let edges = [0x41, 0x7F, 0x80, 0x8F, 0x90, 0x9F, 0xA0, 0xBF, 0xC1, 0xC2, 0xDF, 0xE0, 0xE2, 0xED, 0xEF, 0xF0, 0xF3, 0xF4, 0xF5, 0xFF];
+    let mut broken = 0;
+    for n in 0..edges.len().pow(3) {
+        let text = [edges[n % 20], edges[n / 20 % 20], edges[n / 400], 0x80];
+        let place = break_of(&text);
+        let at = |from: usize, count: u32| place.map(|p| Stopped { refusal: Refusal::Utf8, place: (from + p) as u32, count });
+        // a root string, and the key of a member null; a byte that may go on follows both
+        let string = [&[0x0C, 4][..], &text, &[0xBF]].concat();
+        assert_eq!(walk(&string, &mut [0; 16]).end().err(), at(2, 0), "{text:02x?}");
+        let object = [&bytes("00 01 00 10 00 0B 00 04 00 04 00 00")[..], &text, &[0xBF]].concat();
+        assert_eq!(walk(&object, &mut [0; 16]).end().err(), at(12, 1), "{text:02x?}");
+        broken += u32::from(place.is_some());
+    }
+    assert!(0 < broken && broken < 8000, "{broken} of 8000");
 }
 
 #[test]
@@ -428,8 +457,8 @@ fn display_meets_a_width_and_leaves_no_digit_out() {
     let price = parsed("12.34");
     assert_eq!(format!("[{price}] [{price:8}] [{price:<8}] [{price:08}] [{price:.1}]"), "[12.34] [   12.34] [12.34   ] [00012.34] [12.34]");
     assert_eq!(Refusal::Utf8.to_string(), "9: a key or a string is not UTF-8");
-    let stopped = Stopped { refusal: Refusal::Utf8, place: 9, count: 1 };
-    assert_eq!(stopped.to_string(), "9: a key or a string is not UTF-8, at byte 9, after 1 events");
+    let stopped = Stopped { refusal: Refusal::Utf8, place: 17, count: 1 };
+    assert_eq!(stopped.to_string(), "9: a key or a string is not UTF-8, at byte 17, after 1 events");
 }
 
 /// The numbers and names are those of the header.

@@ -113,7 +113,7 @@ int main(void) {
     for (i = 0; i < 24; i++)
         printf("%u%s", (unsigned)events[i], i % 8 == 7 ? "\n" : " ");
     check("its events", memcmp(events, (const uint32_t[]){2, 0, 0, 0, 0, 1, 10, 2, 4, 1, 0, 0, 0, 6, 1, 0, 5, 1, 1, 0, 0, 9, 2, 0}, sizeof events) == 0);
-    expect("walk of Zoë, cut inside a character", bratthelm_walk(cut, sizeof cut, events, 24, fresh(), 16), BRATTHELM_ERR_UTF8, row, ROW(1, 9));
+    expect("walk of Zoë, cut inside a character", bratthelm_walk(cut, sizeof cut, events, 24, fresh(), 16), BRATTHELM_ERR_UTF8, row, ROW(1, 17));
 
     /* decimals */
     expect("packed -12.34", bratthelm_decimal_read_packed(minus, sizeof minus, 0, fresh(), 16), 0, row, ROW(2, 2, 1, 12, 340000000, 0, 0, 0, 0, 0, 0, 0));

@@ -17,7 +17,7 @@ use lib.ListN.{length, getD, set, length-set}
 use lib.Seq.{length-sets, getD-set-same, getD-set-other, set-comm}
 use borrow.Author.Tests.{le-ltb, lt-ltb, ltb-true, eq-eqb, ne-eqb}
 use Rattle.layout.specs.declared.Kind.{Kind}
-use Rattle.layout.proofs.Cond.{yes}
+use Rattle.layout.proofs.Cond.{yes, no}
 use Rattle.codes.specs.Types.{codeOf as typeCode}
 use Rattle.utf8.specs.declared.Utf8Check.{Utf8Check}
 use Rattle.utf8.specs.declared.Utf8Check.the-variants.{Valid, Bad}
@@ -30,6 +30,7 @@ use Rattle.content.specs.declared.Read.{Read}
 use Rattle.content.specs.declared.Read.the-variants as read
 use Rattle.gate.specs.Said.{readSaid}
 use Rattle.events.specs.declared.Event.{Event}
+use Rattle.events.specs.declared.Walked.{Walked}
 use Rattle.events.specs.declared.Walked.the-variants.{Done, Stopped}
 use Rattle.events.specs.Events.{span, numbers, wide, kindCode, codeOf, partOf, extraOf, eventOf}
 use Rattle.events.specs.Text.{textAt, valueText}
@@ -207,13 +208,12 @@ module _ (d out : List ℕ) (n depth i p from : ℕ) (k : Span) where
 
   -- not listed
   own-number : (m : ℕ) → m < 16 → laid (Stopped m p n) out ≡ laid (ownBy m p n) out
-  own-number m h = sym (ap (λ (b : Bool). laid (cond b (Stopped m p n) (Stopped 9 (m - 16) n)) out) (lt-ltb m 16 h))
+  own-number m h = ap (λ (w : Walked). laid w out) (yes _ (lt-ltb m 16 h) refl)
 
   own-break : (q : ℕ) → laid (Stopped 9 q n) out ≡ laid (ownBy (16 + q) p n) out
   own-break q =
       let e : q ≡ 16 + q - 16 = omega arith in
-      ap (λ (a : ℕ). laid (Stopped 9 a n) out) e
-      ∙ sym (ap (λ (b : Bool). laid (cond b (Stopped (16 + q) p n) (Stopped 9 (16 + q - 16) n)) out) (le-ltb (16 + q) 16 (omega arith)))
+      ap (λ (w : Walked). laid w out) (no _ (le-ltb (16 + q) 16 (omega arith)) (ap (λ (a : ℕ). Stopped 9 a n) e))
 
   pub seen-stopped : (r : Read) → Sound r → {f : ℕ} → f ≡ seenCode d (sightOf r from) out n → (f ≡ 0 → ⊥) → judgedAs r ≡ laid (ownBy f p n) out
   unfolding lay

@@ -108,7 +108,7 @@ module _ (d : List ℕ) (s : Span) (inside : s .start + s .len ≤ length d) whe
           order = (omega arith, omega (arith, place-is), omega (arith, place-is, lengths));
           whole = subst Utf8 (sym whole-is) (b .whole);
           unfinished = subst Unfinished (sym begun-is) (b .unfinished);
-          ended = ended-so (b .rest) refl (b .stuck);
+          ended = λ e. omega (arith, ended-so (b .rest) refl (b .stuck) e);
           stuck = stuck-so (b .rest) refl (b .stuck);
         }
 
