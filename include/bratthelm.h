@@ -29,9 +29,11 @@
  *     8 container    c   start       size         count    c is 0 small object, 1 large object, 2 small array, 3 large array
  *   a key, 3 numbers: 1, start, length; or 0 0 0 for nothing
  *   a count, an order, a number of bytes or of characters, 1 number
- *   how a walk ended, 2 numbers: the count of events, and the place of the fault, which is 0 where there is none. Of BRATTHELM_ERR_UTF8 it is the
- *     byte of the document at which a key or string breaks, and the length of the document where a character is cut at its end; else the first
- *     byte of the key entry for a key's fault, or of the value entry, and 0 at the root
+ *   how a walk ended, 2 numbers: the count of events, and the place of the fault, which is 0 where there is none. Of BRATTHELM_ERR_UTF8 it is
+ *     where a key or string breaks: at the first byte that does not go on with the character that is begun before it or, where none is begun, begins
+ *     none. Where the text ends inside a character it is the text's end: no byte is bad then, the one there is of something else, and the document may
+ *     end there too, so do not read doc[place] before you held it against the text's end. Up to three bytes before the place belong to the begun
+ *     character. Of any other number it is the first byte of the key entry for a key's fault, else of the value entry, and 0 at the root
  *   a decimal, 12 numbers: how many digits stand before the point and after it, sign (0, or 1 for a minus; handed in, any other number is a minus too), and
  *     nine groups: the digits, cut in nines from the point outwards, left to right; the last group of a fraction is filled with zeros to nine digits, unused
  *     groups are 0, and so is the sign of a zero. Numbers that you hand in and that are not so are refused by 26.
@@ -91,7 +93,7 @@ enum bratthelm_refusal {
     BRATTHELM_ERR_POINTER = 6,  /* a value's offset is before the end of its own entry, or past the container */
     BRATTHELM_ERR_LITERAL = 7,  /* unknown literal */
     BRATTHELM_ERR_LENGTH = 8,   /* a length field goes on after five bytes, or its length is above 4,294,967,295 */
-    BRATTHELM_ERR_UTF8 = 9,     /* a key or a string is not UTF-8 (the walk) */
+    BRATTHELM_ERR_UTF8 = 9,     /* a key or a string is not UTF-8 (the walk, with the place where it breaks) */
     BRATTHELM_ERR_COLUMN = 10,  /* unknown column type */
     BRATTHELM_ERR_DEPTH = 11,   /* a path is longer than 100 (the walk) */
     BRATTHELM_ERR_EVENTS = 12,  /* no room for an event (the walk) */

@@ -19,7 +19,7 @@ pub enum Refusal {
     Literal = 7,
     /// A length field goes on after five bytes, or its length is above 4,294,967,295.
     Length = 8,
-    /// A key or a string is not UTF-8; the walk alone asks.
+    /// A key or a string is not UTF-8; the walk alone asks, and says where it breaks.
     Utf8 = 9,
     /// A column type is unknown.
     Column = 10,

@@ -42,8 +42,12 @@ pub struct Event {
 #[derive(Debug, Clone, Copy, PartialEq, Eq)]
 pub struct Stopped {
     pub refusal: Refusal,
-    /// Of [`Refusal::Utf8`] the byte at which the key or string breaks, which is the document's length where a character is cut at its end. Of any
-    /// other the first byte of the key entry for a key's fault, else of the value entry; 0 at the root and for refusal 1.
+    /// Of [`Refusal::Utf8`] where the key or string breaks: at the first byte that does not go on with the character that is begun before it or, where
+    /// none is begun, begins none. A text that ends inside a character breaks at its end: no byte is bad then, the one there is of something else,
+    /// and the document may end there too, so `doc[place]` may panic. Whole characters end up to three bytes earlier, at what `from_utf8` calls
+    /// `valid_up_to`.
+    ///
+    /// Of any other refusal the first byte of the key entry for a key's fault, else of the value entry; 0 at the root and for refusal 1.
     pub place: u32,
     /// How many events there are before it.
     pub count: u32,

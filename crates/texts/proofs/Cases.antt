@@ -1,6 +1,6 @@
 -- Which byte of a part is bad tells what is said of the part: none is, and it is text; or the place is as far from the part's start.
---     bad-outside, bad-inside, bad-within, bad-small    the number by the tests that lead to it
---     text-said                                what it says of the part
+--     bad-outside, bad-inside, bad-small    the number by the tests that lead to it, and how large it is
+--     text-said                             what it says of the part
 -- Assumes nothing.
 use mathlib.Core.Path.{_≡_, refl, sym, ap, _∙_}
 use mathlib.Core.Bool.{Bool, true, false, cond}
@@ -39,12 +39,6 @@ module _ (d : List ℕ) (s : Span) where
     pub bad-inside : nth r ≡ badByte d s
     unfolding badByte
     bad-inside = no _ (le-ltb (length d) end h) (ap nth (re ∙ ap checked part-bytes))
-
-    pub bad-within : {p : ℕ} → r ≡ Bad p → p ≤ length d
-    bad-within {p} e =
-        let l = length-take (s .len) (drop (s .start) d) in
-        let b = breaks-within (broken (bytes d s) p .0 (sym (re ∙ ap checked part-bytes) ∙ e)) in
-        omega arith
 
   -- none is further than one past the document's end
   pub bad-small : badByte d s ≤ length d + 1

@@ -173,7 +173,7 @@ fn list_entry(
         return 16 + byte;
     }
     if room <= n {
-        return 12;
+        return refusal::EVENTS as usize;
     }
     let at = 8 * n;
     out[at] = x.code;

@@ -1,9 +1,10 @@
 -- The part that is handed over holds as many bytes as there are from its start to its end.
 -- Assumes nothing.
+use denote.Ref.{now}
 use native.Mathlib.Omega.{arith}
 use mathlib.Core.Path.{sym, ap, _∙_}
 use Rattle.texts.specs.Course.{nth}
-use Rattle.texts.proofs.Cases.{bad-outside, bad-inside, bad-within}
+use Rattle.texts.proofs.Cases.{bad-outside, bad-inside, bad-small}
 use borrow.Author.Needs.{needs}
 use Rattle.texts.proofs.bad_byte.Statement.{statement}
 use Rattle.texts.proofs.bad_byte.Tie as tie
@@ -42,7 +43,11 @@ enum-known-p : tie.Need-enum-known-p
 enum-known-p c = search needs
 
 add-result : tie.Need-add-result
-add-result c = omega (arith, bad-within _ (c .before .before .before .before .before .before .before .before .before .args .s) (c .before .before .before .before .before .if1 .left) (c .before .before .before .utf8-check .ensures .0) (c .before .p .given .1))
+add-result c =
+    let d = now (c .before .before .before .before .before .before .before .before .before .args .doc) in
+    let s = c .before .before .before .before .before .before .before .before .before .args .s in
+    let e = sym (ap nth (c .before .p .given .1)) ∙ bad-inside d s (c .before .before .before .before .before .if1 .left) (c .before .before .before .utf8-check .ensures .0) in
+    omega (arith, bad-small d s)
 
 returns-2 : tie.Need-returns-2
 returns-2 c = sym (ap nth (c .enum-told .given .1)) ∙ bad-inside _ (c .before .before .before .before .before .before .before .before .args .s) (c .before .before .before .before .if1 .left) (c .before .before .utf8-check .ensures .0)

@@ -47,6 +47,9 @@ returns-2 c =
     seen-by (now (a .doc)) (now (a .out)) (a .n) (c .before .before .before .before .before .before .before .sight-at .ensures)
     (seen-breaks (now (a .doc)) (now (a .out)) (a .n) _ (c .before .before .before .before .before .if1 .left) (c .before .before .is-seen-text .ensures) (not-true _ (c .before .if2 .taken)) (c .break-or .ensures))
 
+cast-result-2 : tie.Need-cast-result-2
+cast-result-2 c = search needs
+
 same-length-2 : tie.Need-same-length-2
 same-length-2 c = search needs
 
@@ -114,6 +117,7 @@ list-entry-spec =
     add-result
     same-length
     returns-2
+    cast-result-2
     same-length-2
     returns-3
     mul-at
