@@ -56,7 +56,7 @@ Open points and how they are read here
 13. SIGN in a record: 1 is negative, 0 is positive.
 14. `o`: where the root is a decimal value whose bytes are refused, the answer is
     that refusal. The opaque bytes are read as the packed form.
-15. `u` answers `bad` with no place ("after W5: bad P" is taken as yet to come).
+15. `u` answers `bad P` (document 02, W5): P counts from the first of the bytes.
 16. Numbers in requests may have leading zeros, but no sign. A carriage return, a
     tab, a second space or a space at the end makes a line no request. ROOM above
     128 in `x`, SIGN or KEEP other than 0 and 1, and an odd number of hexadecimal
@@ -435,7 +435,7 @@ def walk(document, room):
 
 
 def walk_root(document, room, events):
-    # The walk: the root has depth 0, position 0, no key; its refusals have place 0.
+    # The walk: the root has depth 0, position 0, no key; its refusals have place 0, but for a string's 9.
     try:
         value = root_value(document)
     except Refused as refusal:

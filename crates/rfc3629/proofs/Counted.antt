@@ -4,7 +4,7 @@ use Prim.Native.Nat.{ℕ, _+_}
 use mathlib.Core.Path.{_≡_, refl, sym, ap, _∙_}
 use mathlib.Core.List.{List, [], _∷_}
 use native.Mathlib.Nat.{add-assoc, add-zero}
-use Rattle.rfc3629.specs.Machine.{State, start, more, Move, to, stop, ok, bad, next, onward, run, verdictFrom, verdict, plus}
+use Rattle.rfc3629.specs.Machine.{State, start, more, Move, to, stop, bad, next, onward, run, verdictFrom, verdict, plus}
 
 -- with places counted from k the place of a verdict is k more
 move : (k at : ℕ) (bs : List ℕ) (m : Move) → ((st : State) → run st (k + at + 1) bs ≡ plus k (run st (at + 1) bs))
@@ -21,6 +21,3 @@ run-plus k at st (b ∷ bs) =
 
 pub counted : (k : ℕ) (s : List ℕ) → verdictFrom k s ≡ plus k (verdict s)
 counted k s = ap (λ (n : ℕ). run start n s) (sym (add-zero k)) ∙ run-plus k 0 start s
-
-pub shifted : (k : ℕ) (s : List ℕ) → (verdict s ≡ ok → verdictFrom k s ≡ ok) × ((p : ℕ) → verdict s ≡ bad p → verdictFrom k s ≡ bad (k + p))
-shifted k s = (λ e. counted k s ∙ ap (plus k) e, λ p e. counted k s ∙ ap (plus k) e)

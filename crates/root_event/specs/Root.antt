@@ -1,5 +1,5 @@
 -- The root's own path (document 01, 'The walk'): it has no key, its depth, position and place are 0, and its value starts past the document's type byte; the
--- empty document has none, and its null starts at 0. It is listed, or refused at 0 by what its value is refused with, or by 9 where it is a string that breaks.
+-- empty document has none, and its null starts at 0. It is listed, or refused at 0 by what its value is refused with, or refused by 9 at the place where it is a string that breaks.
 -- Assumes nothing.
 use Prim.Native.Nat.{ℕ}
 use mathlib.Core.Bool.{cond}

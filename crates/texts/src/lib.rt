@@ -6,7 +6,7 @@ ghost use Rattle.events.specs.Text.{textAt, isValid, breakOr};
 ghost use Rattle.texts.specs.Course.{badByte};
 
 // Which byte of a part of the document, counted from 1, is the first that cannot begin or continue a character; where a character is cut at the
-// end, the one that is missing; 0 where all is UTF-8. One number, that of the part: it costs a caller least.
+// end, the one that is missing; 0 where all is UTF-8; 1 of a part that ends past the document. One number costs a caller least.
 fn bad_byte(doc: &[u8], s: Span) -> usize
     ensures { λ r. ⌜ r ≡ badByte (now (doc .entry)) s ⌝ }
 {
@@ -28,7 +28,8 @@ pub fn is_text(doc: &[u8], s: Span) -> bool
     bad_byte(doc, s) == 0
 }
 
-// Where a part of the document breaks, counted from the document's first byte; of one that does not, the place that is given.
+// Where a part of the document breaks, counted from the document's first byte; of one that does not, the place that is given. A part that ends past the
+// document breaks at its start.
 pub fn break_or(doc: &[u8], s: Span, place: usize) -> usize
     ensures { λ r. ⌜ r ≡ breakOr place (textAt (now (doc .entry)) s) ⌝ }
 {
