@@ -185,7 +185,7 @@ def key_text(words, ours, theirs, walk):
 
 
 def broken_key(doc, walk):
-    """Whether the place of a walk's refusal is that of a byte, or the end, of a key that is not UTF-8, in one of the objects that it listed."""
+    """Whether a walk's refusal is where a key breaks, in one of the objects that it listed."""
     listed, (_, place) = events(walk)
     for code, _, _, _, _, start, _, count in listed:
         if code > 1:
@@ -194,17 +194,19 @@ def broken_key(doc, walk):
         for entry in range(start + 2 * width, start + 2 * width + count * (width + 2), width + 2):
             offset = start + int.from_bytes(doc[entry:entry + width], "little")
             length = int.from_bytes(doc[entry + width:entry + width + 2], "little")
-            if offset <= place <= offset + length and broken(doc[offset:offset + length]):
+            fault = text_fault(doc[offset:offset + length])
+            if fault is not None and place == offset + fault:
                 return True
     return False
 
 
-def broken(text):
+def text_fault(text):
+    """Where a text breaks by Python's decoder: at a byte that begins no character, else behind the bytes of one that it took. None for UTF-8."""
     try:
         text.decode("utf-8")
-    except UnicodeDecodeError:
-        return True
-    return False
+    except UnicodeDecodeError as fault:
+        return fault.start if fault.reason == "invalid start byte" else fault.end
+    return None
 
 
 def turned(words, ours, theirs, walk):
