@@ -2,12 +2,12 @@
 -- Assumes nothing.
 use mathlib.Core.Path.{_≡_, refl, sym, ap, _∙_}
 use mathlib.Core.Bool.{Bool, true, false, cond}
-use mathlib.Core.List.{List, [], _∷_}
+use mathlib.Core.List.{List, [], _∷_, _++_}
 use Prim.Native.Nat.{ℕ, suc, _+_, _*_, _/_, _≤_, _<_}
 use native.Mathlib.Omega.{arith}
 use native.Mathlib.Numerals.{add-one}
-use lib.ListN.{length, set}
-use lib.Seq.{sets}
+use lib.ListN.{length, getD, set, take, drop, length-append, List·getD-append}
+use lib.Seq.{sets, sets-eq, length-take-le, getD-append-add}
 use lib.Dec.{ltb}
 use borrow.Author.Tests.{le-ltb, lt-ltb, eq-eqb, ne-eqb, ltb-true}
 use Rattle.layout.proofs.Cond.{yes, no}
@@ -18,7 +18,7 @@ use Rattle.value.specs.declared.Value.{Value}
 use Rattle.events.specs.declared.Event.{Event}
 use Rattle.events.specs.declared.Spot.{Spot}
 use Rattle.events.specs.declared.Walked.the-variants.{Done, Stopped}
-use Rattle.events.specs.Events.{span, kindCode, codeOf, bytesOf, bytesFrom, partOf, extraOf, eventOf, wide}
+use Rattle.events.specs.Events.{span, kindCode, codeOf, bytesOf, bytesFrom, partOf, extraOf, eventOf, numbers, wide}
 use Rattle.events.specs.Listing as listing
 use Rattle.events.specs.Lay.{Laid, laid, put, room, lay}
 
@@ -53,7 +53,8 @@ module _ (t : JsonbType) (from : ℕ) where
 -- the event of a value; its code, part and extra number as callees give them
 module _ (s : Spot) (x : Value) where
   abbrev event : ℕ → Span → ℕ → Event
-  event c p e = record { code = c; depth = s .depth; position = s .position; key = s .key; part = p; extra = e }
+  event c p e =
+      record { code = c; depth = s .depth; position = s .position; key = s .key; part = p; extra = e; parent = s .parent }
 
   pub event-is : {c e : ℕ} {p : Span} → c ≡ codeOf x → p ≡ partOf x (s .from) → e ≡ extraOf x → event c p e ≡ eventOf s x
   event-is {c} {e} {p} ce pe ee =
@@ -91,6 +92,18 @@ stores-run (a ∷ vs) l i k =
 
 pub run-of-stores : (l : List ℕ) (i a : ℕ) (vs : List ℕ) → stores (set l i a) i 1 vs ≡ sets l i (a ∷ vs)
 run-of-stores l i a vs = stores-run vs (set l i a) i 1 ∙ ap (λ (j : ℕ). sets (set l i a) j vs) (add-one i)
+
+-- number k of an event that was put down where there is room for it
+pub put-number : (out : List ℕ) (n : ℕ) (e : Event) → wide * n + wide ≤ length out → (k : ℕ) → k < wide → getD (put out n e) (wide * n + k) 0 ≡ getD (numbers e) k 0
+unfolding put
+put-number out n e h k b =
+    let front : List ℕ = take (wide * n) out in
+    let f : length front ≡ wide * n = length-take-le (wide * n) out (omega arith) in
+    let l : length (front ++ numbers e) ≡ length front + wide = length-append front (numbers e) in
+    ap (λ (o : List ℕ). getD o (wide * n + k) 0) (sets-eq (numbers e) out (wide * n) h)
+    ∙ List·getD-append (front ++ numbers e) (drop (wide * n + wide) out) 0 (wide * n + k) (omega arith)
+    ∙ ap (λ (i : ℕ). getD (front ++ numbers e) (i + k) 0) (sym f)
+    ∙ getD-append-add front (numbers e) k 0
 
 -- one event laid down: no room, or put, which leaves o; k is the room and e the event, as callees give them
 module _ (s : Spot) (x : Value) (out : List ℕ) (n : ℕ) {k : ℕ} (ke : k ≡ room out) where

@@ -1,5 +1,6 @@
--- One event of the walk (document 01, 'The walk'): eight numbers, the type code, the depth, the position, the key's start and length, the value's start
--- and length, and one that is a container's count, an opaque value's column type, or 0. Starts count from the document's first byte.
+-- One event of the walk (document 01, 'The walk'; document 02, W6): nine numbers, the type code, the depth, the position, the key's start and length, the
+-- value's start and length, one that is a container's count, an opaque value's column type, or 0, and the index in the list of the container's event, 0
+-- for the root. Starts count from the document's first byte.
 -- Assumes nothing.
 use Prim.Native.Nat.{ℕ}
 use mathlib.Core.Bool.{cond}
@@ -87,12 +88,13 @@ eventOf s x =
       key = s .key;
       part = partOf x (s .from);
       extra = extraOf x;
+      parent = s .parent;
     }
 
 -- its numbers, as they are laid out
 abbrev pub numbers : Event → List ℕ
-numbers e = e .code ∷ e .depth ∷ e .position ∷ e .key .start ∷ e .key .len ∷ e .part .start ∷ e .part .len ∷ e .extra ∷ []
+numbers e = e .code ∷ e .depth ∷ e .position ∷ e .key .start ∷ e .key .len ∷ e .part .start ∷ e .part .len ∷ e .extra ∷ e .parent ∷ []
 
 -- how many they are
 abbrev pub wide : ℕ
-wide = 8
+wide = 9

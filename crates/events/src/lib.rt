@@ -10,7 +10,10 @@ ghost use lib.ListN.{length};
 ghost use Rattle.events.specs.Events.{kindCode, codeOf, bytesOf, bytesFrom, scalarPart, partOf, scalarExtra, extraOf, eventOf};
 ghost use Rattle.events.specs.Lay.{room};
 
-// An event: the type code, the depth, the position, the key's bytes, the value's bytes, and a count or a column type.
+// How many numbers an event has.
+pub const WIDE: usize = 9;
+
+// An event: the type code, the depth, the position, the key's bytes, the value's bytes, a count or a column type, and the index of the container's event.
 pub struct Event {
     pub code: u32,
     pub depth: u32,
@@ -18,12 +21,14 @@ pub struct Event {
     pub key: Span,
     pub part: Span,
     pub extra: u32,
+    pub parent: u32,
 }
 
-// Where a value stands: its path's length and last position, its entry's place, its key, and its own first byte.
+// Where a value stands: its path's length and last position, the index of its container's event, its entry's place, its key, and its own first byte.
 pub struct Spot {
     pub depth: u32,
     pub position: u32,
+    pub parent: u32,
     pub place: usize,
     pub key: Span,
     pub from: u32,
@@ -164,6 +169,7 @@ pub fn event_of(s: Spot, x: Value) -> Event
         key,
         part: part_of(x, s.from),
         extra: extra_of(x),
+        parent: s.parent,
     }
 }
 
@@ -171,7 +177,7 @@ pub fn event_of(s: Spot, x: Value) -> Event
 pub fn room_in(out: &[u32]) -> usize
     ensures { λ r. ⌜ r ≡ room (now (out .entry)) ⌝ }
 {
-    let n = out.len() / 8;
+    let n = out.len() / WIDE;
     if 4294967295 < n {
         return 4294967295;
     }

@@ -27,9 +27,9 @@ fn wide(n: u32) -> u64 {
     n as u64
 }
 
-// What stands after number i: eight to a line.
+// What stands after number i: an event to a line.
 fn say_gap(i: usize) -> bool {
-    if i % 8 == 7 {
+    if i % events::WIDE == events::WIDE - 1 {
         return say(b"\n");
     }
     say(b" ")
@@ -54,8 +54,8 @@ fn say_events(out: &[u32], n: usize) -> bool {
     if !say_count(n) {
         return false;
     }
-    if n <= out.len() / 8 {
-        let end = 8 * n;
+    if n <= out.len() / events::WIDE {
+        let end = events::WIDE * n;
         for i in 0..end {
             if !say_cell(wide(out[i]), i) {
                 return false;

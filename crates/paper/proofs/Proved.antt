@@ -27,10 +27,10 @@ use Rattle.gate.specs.Before.{matches, gated}
 use Rattle.rfc3629.specs.Machine.{lead, run}
 use Rattle.events.specs.Events.{kindCode, bytesFrom}
 use Rattle.events.specs.Text.{textAt}
-use Rattle.paths.specs.Paths.{gather, tree, paths, lastOf, said, scan}
+use Rattle.paths.specs.Paths.{gather, tree, paths, lastOf, above, isSame, indexOf, said, scan}
 use Rattle.paths.specs.Shown.{cut, flat, ends, shown}
 use Rattle.paper.specs.Paper.{Row, Thing, prints, printedOr, rootView, asked, table}
 
 pub proved : map (λ (r : Row × Said Thing). asked (r .0)) table ≡ map (λ (r : Row × Said Thing). r .1) table
-unfolding prints isNought belowZero signedNought digitsOk wellAt wellGroups wellFormed number digits tab width groupsOf side digitsAt offset flip flipFirst digitsIn inRange groupAt rangeAt unitOf storedAt groupsIn readGroups groupDigits digitsTo unpadded wholeDigits fractionText negative decimalOf orNought leadingIn without finished fromGroups readBin readPacked printed printedOr value le groups searched typeOf literalType offsetSize keyEntry keyPlace valuePlace headerSize offsetAt headerAt literalAt numberAt partAt stringAt contentAt placeFault readAt headerRead pointedAt typedEntry entryAt keyOf keyEntryAt rootRead matches gated elemAt keyAt rootView startOf valueStart lead run kindCode bytesFrom textAt gather tree paths lastOf said scan cut flat ends shown asked
+unfolding prints isNought belowZero signedNought digitsOk wellAt wellGroups wellFormed number digits tab width groupsOf side digitsAt offset flip flipFirst digitsIn inRange groupAt rangeAt unitOf storedAt groupsIn readGroups groupDigits digitsTo unpadded wholeDigits fractionText negative decimalOf orNought leadingIn without finished fromGroups readBin readPacked printed printedOr value le groups searched typeOf literalType offsetSize keyEntry keyPlace valuePlace headerSize offsetAt headerAt literalAt numberAt partAt stringAt contentAt placeFault readAt headerRead pointedAt typedEntry entryAt keyOf keyEntryAt rootRead matches gated elemAt keyAt rootView startOf valueStart lead run kindCode bytesFrom textAt gather tree paths lastOf above isSame indexOf said scan cut flat ends shown asked
 proved = refl

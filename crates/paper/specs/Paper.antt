@@ -1,4 +1,5 @@
--- Document 01's examples that are marked (P): each row a question, and beside it what document 01 answers, or document 02 where it changes that. A kind of question is a constructor
+-- Document 01's examples that are marked (P): each row a question, and beside it what document 01 answers, or document 02 where it changes that; an event's
+-- ninth number, the index of its container's event, is document 02's (W6). A kind of question is a constructor
 -- of `Row`, and `asked` says what the definitions answer to it: a thing, nothing, or the number of the refusal.
 -- Assumes nothing.
 use Prim.Native.Nat.{ℕ}
@@ -49,7 +50,7 @@ pub data Thing : Type 0 where
   valued : Value → Thing
   -- where a key stands
   keyed : Span → Thing
-  -- the numbers of a walk's events, eight each, and how it ends
+  -- the numbers of a walk's events, nine each, and how it ends
   listed : List ℕ → Ended → Thing
 
 -- ---- decimals: what one prints, or 26; or what reading it refused
@@ -140,27 +141,49 @@ badKey = 0x00 ∷ 0x01 ∷ 0x00 ∷ 0x0C ∷ 0x00 ∷ 0x0B ∷ 0x00 ∷ 0x01 ∷
 abbrev pub cut : ℕ → List ℕ
 cut b = 0x0C ∷ 0x02 ∷ 0xE2 ∷ 0x82 ∷ b ∷ []
 
+-- an array of two arrays, of true and of -2
+abbrev pub arrays : List ℕ
+arrays =
+    0x02 ∷ 0x02 ∷ 0x00 ∷ 0x18 ∷ 0x00 ∷ 0x02 ∷ 0x0A ∷ 0x00 ∷ 0x02 ∷ 0x11 ∷ 0x00
+    ∷ 0x01 ∷ 0x00 ∷ 0x07 ∷ 0x00 ∷ 0x04 ∷ 0x01 ∷ 0x00 ∷ 0x01 ∷ 0x00 ∷ 0x07 ∷ 0x00 ∷ 0x05 ∷ 0xFE ∷ 0xFF ∷ []
+
 -- ---- events: the root of an array and its two elements; the root of an object and its member; an empty document's null
 abbrev pub arrayRoot : List ℕ
-arrayRoot = 2 ∷ 0 ∷ 0 ∷ 0 ∷ 0 ∷ 1 ∷ 10 ∷ 2 ∷ []
+arrayRoot = 2 ∷ 0 ∷ 0 ∷ 0 ∷ 0 ∷ 1 ∷ 10 ∷ 2 ∷ 0 ∷ []
 
 abbrev pub isTrue : List ℕ
-isTrue = 4 ∷ 1 ∷ 0 ∷ 0 ∷ 0 ∷ 6 ∷ 1 ∷ 0 ∷ []
+isTrue = 4 ∷ 1 ∷ 0 ∷ 0 ∷ 0 ∷ 6 ∷ 1 ∷ 0 ∷ 0 ∷ []
 
 abbrev pub isMinusTwo : List ℕ
-isMinusTwo = 5 ∷ 1 ∷ 1 ∷ 0 ∷ 0 ∷ 9 ∷ 2 ∷ 0 ∷ []
+isMinusTwo = 5 ∷ 1 ∷ 1 ∷ 0 ∷ 0 ∷ 9 ∷ 2 ∷ 0 ∷ 0 ∷ []
 
 abbrev pub objectRoot : List ℕ
-objectRoot = 0 ∷ 0 ∷ 0 ∷ 0 ∷ 0 ∷ 1 ∷ 17 ∷ 1 ∷ []
+objectRoot = 0 ∷ 0 ∷ 0 ∷ 0 ∷ 0 ∷ 1 ∷ 17 ∷ 1 ∷ 0 ∷ []
 
 abbrev pub keyedRoot : List ℕ
-keyedRoot = 0 ∷ 0 ∷ 0 ∷ 0 ∷ 0 ∷ 1 ∷ 12 ∷ 1 ∷ []
+keyedRoot = 0 ∷ 0 ∷ 0 ∷ 0 ∷ 0 ∷ 1 ∷ 12 ∷ 1 ∷ 0 ∷ []
 
 abbrev pub isZoe : List ℕ
-isZoe = 12 ∷ 1 ∷ 0 ∷ 12 ∷ 1 ∷ 14 ∷ 4 ∷ 0 ∷ []
+isZoe = 12 ∷ 1 ∷ 0 ∷ 12 ∷ 1 ∷ 14 ∷ 4 ∷ 0 ∷ 0 ∷ []
 
 abbrev pub emptyNull : List ℕ
-emptyNull = 4 ∷ 0 ∷ 0 ∷ 0 ∷ 0 ∷ 0 ∷ 0 ∷ 0 ∷ []
+emptyNull = 4 ∷ 0 ∷ 0 ∷ 0 ∷ 0 ∷ 0 ∷ 0 ∷ 0 ∷ 0 ∷ []
+
+-- an array, its first array with true, its second array with -2
+abbrev pub arraysRoot : List ℕ
+arraysRoot = 2 ∷ 0 ∷ 0 ∷ 0 ∷ 0 ∷ 1 ∷ 24 ∷ 2 ∷ 0 ∷ []
+
+abbrev pub firstArray : List ℕ
+firstArray = 2 ∷ 1 ∷ 0 ∷ 0 ∷ 0 ∷ 11 ∷ 7 ∷ 1 ∷ 0 ∷ []
+
+abbrev pub trueInFirst : List ℕ
+trueInFirst = 4 ∷ 2 ∷ 0 ∷ 0 ∷ 0 ∷ 16 ∷ 1 ∷ 0 ∷ 1 ∷ []
+
+abbrev pub secondArray : List ℕ
+secondArray = 2 ∷ 1 ∷ 1 ∷ 0 ∷ 0 ∷ 18 ∷ 7 ∷ 1 ∷ 0 ∷ []
+
+abbrev pub minusTwoInSecond : List ℕ
+minusTwoInSecond = 5 ∷ 2 ∷ 0 ∷ 0 ∷ 0 ∷ 23 ∷ 2 ∷ 0 ∷ 3 ∷ []
 
 abbrev pub table : List (Row × Said Thing)
 table =
@@ -191,16 +214,19 @@ table =
     ∷ (element pointed 0, int type.Int32 (negsuc 0))
     ∷ (element inlined 0, int type.Int32 (negsuc 0))
     -- the array of true and -2, walked: three events; with room for two it is 12 at the entry of -2
-    ∷ (walk trueAndMinusTwo 2048, lists (arrayRoot ∷ isTrue ∷ isMinusTwo ∷ []) (Done 3))
+    ∷ (walk trueAndMinusTwo 1820, lists (arrayRoot ∷ isTrue ∷ isMinusTwo ∷ []) (Done 3))
     ∷ (walk trueAndMinusTwo 2, lists (arrayRoot ∷ isTrue ∷ []) (Stopped 12 8 2))
     -- the object of Zoë; a last byte that ends no character is 9 at that byte (document 02, W5), a key's offset of 0A is 5 at the key's entry
-    ∷ (walk (zoe 0x0B) 2048, lists (objectRoot ∷ isZoe ∷ []) (Done 2))
-    ∷ (walk (zoeEnding 0x0B 0x22) 2048, lists (objectRoot ∷ []) (Stopped 9 17 1))
-    ∷ (walk (zoe 0x0A) 2048, lists (objectRoot ∷ []) (Stopped 5 5 1))
+    ∷ (walk (zoe 0x0B) 1820, lists (objectRoot ∷ isZoe ∷ []) (Done 2))
+    ∷ (walk (zoeEnding 0x0B 0x22) 1820, lists (objectRoot ∷ []) (Stopped 9 17 1))
+    ∷ (walk (zoe 0x0A) 1820, lists (objectRoot ∷ []) (Stopped 5 5 1))
     -- a key that is no character is 9 at its byte; a character that its text cuts is 9 at the text's end, whatever stands there
-    ∷ (walk badKey 2048, lists (keyedRoot ∷ []) (Stopped 9 12 1))
-    ∷ (walk (cut 0x04) 2048, lists [] (Stopped 9 4 0))
-    ∷ (walk (cut 0xAC) 2048, lists [] (Stopped 9 4 0))
+    ∷ (walk badKey 1820, lists (keyedRoot ∷ []) (Stopped 9 12 1))
+    ∷ (walk (cut 0x04) 1820, lists [] (Stopped 9 4 0))
+    ∷ (walk (cut 0xAC) 1820, lists [] (Stopped 9 4 0))
+    -- arrays in an array: an event's last number is the index of its container's, also of those that stand where there is no room for more (document 02, W6)
+    ∷ (walk arrays 1820, lists (arraysRoot ∷ firstArray ∷ trueInFirst ∷ secondArray ∷ minusTwoInSecond ∷ []) (Done 5))
+    ∷ (walk arrays 3, lists (arraysRoot ∷ firstArray ∷ trueInFirst ∷ []) (Stopped 12 8 3))
     -- the empty document
-    ∷ (walk [] 2048, lists (emptyNull ∷ []) (Done 1))
+    ∷ (walk [] 1820, lists (emptyNull ∷ []) (Done 1))
     ∷ []

@@ -15,5 +15,5 @@ use Rattle.paths.proofs.Scan.{listing-scan}
 pub walks : (d out : List ℕ) {r : Walked} {left : List ℕ} → lay (listing d) out 0 ≡ laid r left → Walks d out r left
 unfolding shown
 walks d out {r} {left} e =
-    let f : lay (scan d (paths d)) out 0 ≡ laid r left = ap (λ (l : Listing). lay l out 0) (sym (listing-scan d)) ∙ e in
-    record { answer = laid-answer (scan d (paths d)) out f; leaves = laid-leaves (scan d (paths d)) out f }
+    let f : lay (scan d (paths d) (paths d)) out 0 ≡ laid r left = ap (λ (l : Listing). lay l out 0) (sym (listing-scan d)) ∙ e in
+    record { answer = laid-answer (scan d (paths d) (paths d)) out f; leaves = laid-leaves (scan d (paths d) (paths d)) out f }

@@ -1,4 +1,5 @@
 pub mod Laid
 pub mod Whole
+pub mod Index
 pub mod Scan
 pub mod Bridge

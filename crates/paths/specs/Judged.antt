@@ -26,8 +26,8 @@ pub data Judged : Type 0 where
   bad : ℕ → ℕ → Judged
   good : Event → Value → Judged
 
-abbrev pub spot : ℕ → ℕ → ℕ → Span → ℕ → Spot
-spot depth i p k f = record { depth = depth; position = i; place = p; key = k; from = f }
+abbrev pub spot : ℕ → ℕ → ℕ → ℕ → Span → ℕ → Spot
+spot depth i m p k f = record { depth = depth; position = i; parent = m; place = p; key = k; from = f }
 
 -- a text that breaks is 9 where it breaks; after one that does not comes the rest
 abbrev pub textThen : Utf8Check → Judged → Judged
@@ -41,14 +41,14 @@ valueJudged d s nothing = bad 0 (s .place)
 valueJudged d s (refuses n) = bad n (s .place)
 
 -- the key, then its text, then the value
-abbrev pub keyJudged : List ℕ → ℕ → ℕ → Stand → Said Span → Judged
-keyJudged d depth i s (says k) = textThen (textAt d k) (valueJudged d (spot depth i (s .place) k (s .from)) (s .value))
-keyJudged d depth i s nothing = bad 0 (s .keyPlace)
-keyJudged d depth i s (refuses n) = bad n (s .keyPlace)
+abbrev pub keyJudged : List ℕ → ℕ → ℕ → ℕ → Stand → Said Span → Judged
+keyJudged d depth i m s (says k) = textThen (textAt d k) (valueJudged d (spot depth i m (s .place) k (s .from)) (s .value))
+keyJudged d depth i m s nothing = bad 0 (s .keyPlace)
+keyJudged d depth i m s (refuses n) = bad n (s .keyPlace)
 
--- a path of this length that ends in position i
-abbrev pub judged : List ℕ → ℕ → ℕ → Stand → Judged
-judged d depth i s = keyJudged d depth i s (s .key)
+-- a path of this length that ends in position i, in the container of event m
+abbrev pub judged : List ℕ → ℕ → ℕ → ℕ → Stand → Judged
+judged d depth i m s = keyJudged d depth i m s (s .key)
 
 -- one path whose value entry is at a place, and what is listed after it
 abbrev pub node : Judged → ℕ → (Value → Listing) → Listing

@@ -1,7 +1,8 @@
 -- The walk by levels; no promise rests on it, and `listing-scan` says that it lists what a scan of all paths lists. An entry is read by the view alone,
--- without asking again whether the view is whole, and a child is listed with one level less.
+-- without asking again whether the view is whole, and a child is listed with one level less. It counts events as it goes, so that a child is told the
+-- index of its container's event.
 -- Assumes nothing.
-use Prim.Native.Nat.{ℕ, zero, suc, _-_}
+use Prim.Native.Nat.{ℕ, zero, suc, _+_, _-_}
 use mathlib.Core.Bool.{cond}
 use mathlib.Core.List.{List}
 use Rattle.value.specs.declared.View.{View}
@@ -21,10 +22,16 @@ fault n p then m = fault n p
 event e p l then m = event e p (l then m)
 
 infixr 50 _then_
--- k entries, from entry i on
-unfoldable pub entries : (ℕ → Listing) → ℕ → ℕ → Listing
-entries f zero i = end
-entries f (suc k) i = f i then entries f k (suc i)
+-- how many events there are
+unfoldable pub size : Listing → ℕ
+size end = 0
+size (fault n p) = 0
+size (event e p l) = suc (size l)
+
+-- k entries, from entry i on, the first at event n
+unfoldable pub entries : (ℕ → ℕ → Listing) → ℕ → ℕ → ℕ → Listing
+entries f zero i n = end
+entries f (suc k) i n = f i n then entries f k (suc i) (n + size (f i n))
 
 abbrev pub entryStand : List ℕ → View → ℕ → Stand
 entryStand d v i =
@@ -36,15 +43,15 @@ entryStand d v i =
       from = valueStart d v i;
     }
 
--- entry i of a container and what is below it, with so many levels left below the container
-unfoldable pub entryListing : ℕ → List ℕ → View → ℕ → Listing
-entryListing zero d v i = fault 11 (placeAt v i)
-entryListing (suc l) d v i =
-    node (judged d (100 - l) i (entryStand d v i)) (placeAt v i) (λ x. entries (entryListing l d (viewOf x)) (countOf x) 0)
+-- entry i of the container of event m, at event n, and what is below it, with so many levels left below the container
+unfoldable pub entryListing : ℕ → List ℕ → View → ℕ → ℕ → ℕ → Listing
+entryListing zero d v m i n = fault 11 (placeAt v i)
+entryListing (suc l) d v m i n =
+    node (judged d (100 - l) i m (entryStand d v i)) (placeAt v i) (λ x. entries (entryListing l d (viewOf x) n) (countOf x) 0 (n + 1))
 
--- all entries of a value
-unfoldable pub children : ℕ → List ℕ → Value → Listing
-children l d x = entries (entryListing l d (viewOf x)) (countOf x) 0
+-- all entries of the value of event n
+unfoldable pub children : ℕ → List ℕ → ℕ → Value → Listing
+children l d n x = entries (entryListing l d (viewOf x) n) (countOf x) 0 (n + 1)
 
 unfoldable pub listing : List ℕ → Listing
-listing d = node (judged d 0 0 (rootStand d)) 0 (children 100 d)
+listing d = node (judged d 0 0 0 (rootStand d)) 0 (children 100 d 0)

@@ -1,7 +1,7 @@
 -- Paths (document 01, 'The walk'). A path is a list of positions from the root, each below the count of the container that those before it reach; the
 -- empty list is the root's. What stands at a position is what `elemAt` and `keyAt` of the crate jsonb answer there, so that elements define paths.
 -- Assumes nothing.
-use mathlib.Core.Bool.{false, cond}
+use mathlib.Core.Bool.{Bool, true, false, cond}
 use mathlib.Core.List.{List, [], _∷_, _++_, map}
 use Prim.Native.Nat.{ℕ, zero, suc, _<_}
 use lib.Dec.{ltb, eqb}
@@ -87,15 +87,37 @@ tree (suc l) d s = item [] s ∷ gather (λ i. map (under i) (tree l d (child d 
 unfoldable pub paths : List ℕ → List Item
 paths d = tree 101 d (rootStand d)
 
--- ---- what is said of a path, 11 before all else, and of all paths up to the first fault
+-- ---- a path's last position, and the path without it, which is that of the container; the root's is its own
 unfoldable pub lastOf : List ℕ → ℕ
 lastOf [] = 0
 lastOf (i ∷ []) = i
 lastOf (i ∷ j ∷ π) = lastOf (j ∷ π)
 
-unfoldable pub said : List ℕ → Item → Judged
-said d x = cond (ltb 100 (length (x .path))) (bad 11 (x .stand .place)) (judged d (length (x .path)) (lastOf (x .path)) (x .stand))
+unfoldable pub above : List ℕ → List ℕ
+above [] = []
+above (i ∷ []) = []
+above (i ∷ j ∷ π) = i ∷ above (j ∷ π)
 
-unfoldable pub scan : List ℕ → List Item → Listing
-scan d [] = end
-scan d (x ∷ xs) = node (said d x) (x .stand .place) (λ w. scan d xs)
+-- ---- the index of a path in a list: how many items stand before it
+unfoldable pub isSame : List ℕ → List ℕ → Bool
+isSame [] [] = true
+isSame [] (j ∷ ρ) = false
+isSame (i ∷ π) [] = false
+isSame (i ∷ π) (j ∷ ρ) = cond (eqb i j) (isSame π ρ) false
+
+unfoldable pub indexOf : List ℕ → List Item → ℕ
+indexOf π [] = 0
+indexOf π (x ∷ xs) = cond (isSame π (x .path)) 0 (suc (indexOf π xs))
+
+-- the index of the container (document 02, W6): one event is listed for each item, in their order, so that this is the index of its event
+abbrev pub parentIn : List Item → Item → ℕ
+parentIn xs x = indexOf (above (x .path)) xs
+
+-- ---- what is said of a path among all, 11 before all else, and of paths in order up to the first fault
+unfoldable pub said : List ℕ → List Item → Item → Judged
+said d all x =
+    cond (ltb 100 (length (x .path))) (bad 11 (x .stand .place)) (judged d (length (x .path)) (lastOf (x .path)) (parentIn all x) (x .stand))
+
+unfoldable pub scan : List ℕ → List Item → List Item → Listing
+scan d all [] = end
+scan d all (x ∷ xs) = node (said d all x) (x .stand .place) (λ w. scan d all xs)

@@ -50,9 +50,9 @@ over l out = flat l ++ drop (length (flat l)) out
 
 -- what is shown of a document in so much room
 unfoldable pub shown : List ℕ → ℕ → Listing
-shown d k = cut (scan d (paths d)) k
+shown d k = cut (scan d (paths d) (paths d)) k
 
--- the promise of the walk: its answer, and what it leaves in the lent list. Room is the list's length divided by eight, rounded down, at most 4,294,967,295
+-- the promise of the walk: its answer, and what it leaves in the lent list. Room is the list's length divided by nine, rounded down, at most 4,294,967,295
 pub record Walks (d out : List ℕ) (r : Walked) (left : List ℕ) : Type 0 where
   pub answer : told r ≡ ends (shown d (room out)) 0
   pub leaves : left ≡ over (shown d (room out)) out

@@ -56,7 +56,7 @@ module _ (d : List ℕ) where
         ap by (sym own-text ∙ broken-so 0 (textAt d s) (sym be ∙ e)) ∙ ap (λ (q : ℕ). laid (Stopped 9 q 0) out) (sym pe)
 
     abbrev from : ℕ → Spot
-    from f = record { depth = 0; position = 0; place = 0; key = noKey; from = f }
+    from f = record { depth = 0; position = 0; parent = 0; place = 0; key = noKey; from = f }
 
     pub value-listed : {f : ℕ} {l : Laid} → b ≡ true → f ≡ firstByte d → lay (event (eventOf (from f) x) 0 end) out 0 ≡ l → lay (valueNode d x) out 0 ≡ l
     unfolding valueNode

@@ -1,4 +1,4 @@
--- The root's own path (document 01, 'The walk'): it has no key, its depth, position and place are 0, and its value starts past the document's type byte; the
+-- The root's own path (document 01, 'The walk'): it has no key, its depth, position, parent and place are 0, and its value starts past the document's type byte; the
 -- empty document has none, and its null starts at 0. It is listed, or refused at 0 by what its value is refused with, or refused by 9 at the place where it is a string that breaks.
 -- Assumes nothing.
 use Prim.Native.Nat.{ℕ}
@@ -37,7 +37,7 @@ unfoldable pub firstByte : List ℕ → ℕ
 firstByte d = cond (eqb (length d) 0) 0 1
 
 abbrev pub spotOf : List ℕ → Spot
-spotOf d = record { depth = 0; position = 0; place = 0; key = noKey; from = firstByte d }
+spotOf d = record { depth = 0; position = 0; parent = 0; place = 0; key = noKey; from = firstByte d }
 
 -- a text that breaks is 9 where it breaks
 abbrev pub textNode : Utf8Check → Listing → Listing

@@ -50,7 +50,7 @@ fn put_event(out: &mut [u32], n: usize, e: Event)
     requires { ⌜ eventWide * n + eventWide ≤ length (now out) ⌝ }
     ensures { λ _. ⌜ now (out .exit) ≡ put (now (out .entry)) n e ⌝ }
 {
-    let at = 8 * n;
+    let at = events::WIDE * n;
     let key = e.key;
     let part = e.part;
     out[at] = e.code;
@@ -61,6 +61,7 @@ fn put_event(out: &mut [u32], n: usize, e: Event)
     out[at + 5] = part.start;
     out[at + 6] = part.len;
     out[at + 7] = e.extra;
+    out[at + 8] = e.parent;
 }
 
 // Lays down the event of a value: 12 where there is no room.
@@ -96,6 +97,7 @@ fn list_value(doc: &[u8], out: &mut [u32], x: Value) -> Walked
         Spot {
             depth: 0,
             position: 0,
+            parent: 0,
             place: 0,
             key: Span { start: 0, len: 0 },
             from: first_byte(doc),

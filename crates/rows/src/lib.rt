@@ -31,6 +31,7 @@ fn put_value(answer: &mut [u32], x: Value)
         Spot {
             depth: 0,
             position: 0,
+            parent: 0,
             place: 0,
             key: Span { start: 0, len: 0 },
             from: 0,

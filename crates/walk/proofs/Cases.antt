@@ -65,14 +65,14 @@ module _ (v : View) where
 -- and the value of an event by its code; r is what its container leads to as the callee gives it
 module _ (out : List ℕ) (n : ℕ) where
   abbrev code : ℕ
-  code = getD out (8 * n) 0
+  code = getD out (wide * n) 0
 
   pub no-leads : 3 < code → Nothing ≡ leadsIn out n
   unfolding leadsIn
   no-leads h = yes _ (lt-ltb 3 code h) refl
 
   pub some-leads : {r : Leads} → code ≤ 3 →
-      r ≡ leadsBy (view (getD out (8 * n + 5) 0) (getD out (8 * n + 6) 0) (getD out (8 * n + 7) 0) (kind (ltb code 2) (eqb (code % 2) 1))) (ltb code 2) → r ≡ leadsIn out n
+      r ≡ leadsBy (view (getD out (wide * n + 5) 0) (getD out (wide * n + 6) 0) (getD out (wide * n + 7) 0) (kind (ltb code 2) (eqb (code % 2) 1))) (ltb code 2) → r ≡ leadsIn out n
   unfolding leadsIn
   some-leads h e = no _ (le-ltb 3 code h) e
 
@@ -93,6 +93,10 @@ room-small out = go (ltb 4294967295 (length out / wide)) refl
     go true e = omega arith
     go false e = ltb-false 4294967295 (length out / wide) e
 
+-- so that the index of an event fits into 32 bits
+pub last-small : {d out : List ℕ} {n : ℕ} → Last d out n → n ≤ 4294967295
+last-small {out = out} l = omega (arith, l .fits, room-small out)
+
 seen-length : (out : List ℕ) (n : ℕ) (x : Sight) → length (putSeen out n x) ≡ length out
 unfolding putSeen
 seen-length out n x = simp length-set refl
@@ -102,18 +106,18 @@ abbrev own : List ℕ → ℕ → Judged → ℕ → Laid
 own out n j p = lay (node j p childless) out n
 
 -- what stands at a path whose key is told, and is text or breaks
-module _ (d : List ℕ) (depth i : ℕ) (s : Stand) (p : ℕ) (out : List ℕ) (n : ℕ) where
+module _ (d : List ℕ) (depth i m : ℕ) (s : Stand) (p : ℕ) (out : List ℕ) (n : ℕ) where
   abbrev by-key : Said Span → Laid
-  by-key k = own out n (keyJudged d depth i s k) p
+  by-key k = own out n (keyJudged d depth i m s k) p
 
   module _ {k : Span} (ke : s .key ≡ says k) where
     abbrev by-text : Utf8Check → Laid
-    by-text t = own out n (textThen t (valueJudged d (spot depth i (s .place) k (s .from)) (s .value))) p
+    by-text t = own out n (textThen t (valueJudged d (spot depth i m (s .place) k (s .from)) (s .value))) p
 
-    pub key-text : textAt d k ≡ Valid → own out n (judged d depth i s) p ≡ own out n (valueJudged d (spot depth i (s .place) k (s .from)) (s .value)) p
+    pub key-text : textAt d k ≡ Valid → own out n (judged d depth i m s) p ≡ own out n (valueJudged d (spot depth i m (s .place) k (s .from)) (s .value)) p
     key-text t = ap by-key ke ∙ ap by-text t
 
-    pub key-breaks : {q : ℕ} → textAt d k ≡ Bad q → own out n (judged d depth i s) p ≡ laid (Stopped 9 q n) out
+    pub key-breaks : {q : ℕ} → textAt d k ≡ Bad q → own out n (judged d depth i m s) p ≡ laid (Stopped 9 q n) out
     unfolding lay
     key-breaks t = ap by-key ke ∙ ap by-text t
 
@@ -164,20 +168,20 @@ module _ (d : List ℕ) (v : View) (p : ℕ) (ob : v .kind .object ≡ true) (w 
     length-is le = le ∙ sym (le-inside 2 d (p + m) (endOf v) (omega (arith, w .order, entry-size, size-is)))
 
 -- an entry whose key is refused, or breaks; its key y, the key's place q or that of the break as callees give them
-module _ (d : List ℕ) (v : View) (i depth : ℕ) (out : List ℕ) (n : ℕ) (y : Part) (ye : entryStand d v i .key ≡ partSaid y) where
-  stopped-so : {f q : ℕ} {c : Child} → c ≡ stoppedAt f q n → own out n (judged d depth i (entryStand d v i)) (placeAt v i) ≡ laid (Stopped f q n) out → Listed d v i depth out n c out
-  stopped-so ce e = subst (λ (c : Child). Listed d v i depth out n c out) (sym ce) (record { listed = e; leads = λ m. never m; last = tt })
+module _ (d : List ℕ) (v : View) (i depth m : ℕ) (out : List ℕ) (n : ℕ) (y : Part) (ye : entryStand d v i .key ≡ partSaid y) where
+  stopped-so : {f q : ℕ} {c : Child} → c ≡ stoppedAt f q n → own out n (judged d depth i m (entryStand d v i)) (placeAt v i) ≡ laid (Stopped f q n) out → Listed d v i depth m out n c out
+  stopped-so ce e = subst (λ (c : Child). Listed d v i depth m out n c out) (sym ce) (record { listed = e; leads = λ q. never q; last = tt })
 
-  pub key-refused : {q m : ℕ} {c : Child} → q ≡ keyPlaceAt v i → y ≡ part.Refused m → c ≡ stoppedAt m q n → Listed d v i depth out n c out
+  pub key-refused : {q f : ℕ} {c : Child} → q ≡ keyPlaceAt v i → y ≡ part.Refused f → c ≡ stoppedAt f q n → Listed d v i depth m out n c out
   unfolding lay
-  key-refused {m = m} qe yz ce =
-      stopped-so ce (ap (by-key d depth i (entryStand d v i) (placeAt v i) out n) (ye ∙ ap partSaid yz) ∙ ap (λ (a : ℕ). laid (Stopped m a n) out) (sym qe))
+  key-refused {f = f} qe yz ce =
+      stopped-so ce (ap (by-key d depth i m (entryStand d v i) (placeAt v i) out n) (ye ∙ ap partSaid yz) ∙ ap (λ (a : ℕ). laid (Stopped f a n) out) (sym qe))
 
   pub key-bad : (z : ℕ) {k : Span} {b : Bool} {q : ℕ} {c : Child} → y ≡ part.Bytes k → b ≡ isValid (textAt d k) → b ≡ false → q ≡ breakOr z (textAt d k) →
-      c ≡ stoppedAt 9 q n → Listed d v i depth out n c out
+      c ≡ stoppedAt 9 q n → Listed d v i depth m out n c out
   key-bad z {k} yk be t qe ce =
       stopped-so ce
-      (key-breaks d depth i (entryStand d v i) (placeAt v i) out n (ye ∙ ap partSaid yk) (broken-so z (textAt d k) (sym be ∙ t) ∙ ap Bad (sym qe)))
+      (key-breaks d depth i m (entryStand d v i) (placeAt v i) out n (ye ∙ ap partSaid yk) (broken-so z (textAt d k) (sym be ∙ t) ∙ ap Bad (sym qe)))
 
 -- a child that was not listed, by what its listing answered, f; c is the child as the callee gives it
 module _ (f p n : ℕ) where
@@ -191,7 +195,7 @@ module _ (f p n : ℕ) where
   by-break h ce = ce ∙ sym (ap child-by (le-ltb f 16 h))
 
 -- an entry whose key is text; its key k, its place p, its kind g, what its listing answered, f, and what that left, o, as callees give them
-module _ (d : List ℕ) (v : View) (i depth : ℕ) (out : List ℕ) (n : ℕ) (k : Span) (ke : entryStand d v i .key ≡ says k) (kt : textAt d k ≡ Valid) {g : Kind} (ge : g ≡ v .kind)
+module _ (d : List ℕ) (v : View) (i depth m : ℕ) (out : List ℕ) (n : ℕ) (k : Span) (ke : entryStand d v i .key ≡ says k) (kt : textAt d k ≡ Valid) {g : Kind} (ge : g ≡ v .kind)
     {p f : ℕ} (pe : p ≡ placeAt v i) {o : List ℕ}
     (fe : f ≡ seenCode d (sightAt d (g .large) (v .start) (v .size) p) out n)
     (oe : o ≡ seenLeaves f (sightAt d (g .large) (v .start) (v .size) p) out n) where
@@ -202,7 +206,7 @@ module _ (d : List ℕ) (v : View) (i depth : ℕ) (out : List ℕ) (n : ℕ) (k
   from = valueStart d v i
 
   abbrev all : Laid
-  all = own out n (judged d depth i (entryStand d v i)) (placeAt v i)
+  all = own out n (judged d depth i m (entryStand d v i)) (placeAt v i)
 
   sight-is : sightAt d (g .large) (v .start) (v .size) p ≡ sightOf what from
   sight-is =
@@ -215,60 +219,60 @@ module _ (d : List ℕ) (v : View) (i depth : ℕ) (out : List ℕ) (n : ℕ) (k
   unfolding seenLeaves
   leaves-is e = oe ∙ ap (λ (x : Sight). cond (eqb f 0) (putSeen out n x) out) sight-is ∙ ap (λ (b : Bool). cond b (putSeen out n (sightOf what from)) out) e
 
-  value-of : all ≡ own out n (valueJudged d (spot depth i (placeAt v i) k from) (readSaid what)) (placeAt v i)
-  value-of = key-text d depth i (entryStand d v i) (placeAt v i) out n ke kt
+  value-of : all ≡ own out n (valueJudged d (spot depth i m (placeAt v i) k from) (readSaid what)) (placeAt v i)
+  value-of = key-text d depth i m (entryStand d v i) (placeAt v i) out n ke kt
 
   -- it was not listed
-  pub entry-stopped : (f ≡ 0 → ⊥) → {c : Child} → c ≡ stoppedBy f p n → Listed d v i depth out n c o
+  pub entry-stopped : (f ≡ 0 → ⊥) → {c : Child} → c ≡ stoppedBy f p n → Listed d v i depth m out n c o
   entry-stopped z ce =
-      subst (λ (c : Child). Listed d v i depth out n c o) (sym ce)
+      subst (λ (c : Child). Listed d v i depth m out n c o) (sym ce)
       (go (ltb f 16)
       (value-of
-      ∙ seen-stopped d out n depth i (placeAt v i) from k what (entry-sound d v i) number-is z
+      ∙ seen-stopped d out n depth i m (placeAt v i) from k what (entry-sound d v i) number-is z
       ∙ ap (λ (q : ℕ). laid (ownBy f q n) out) (sym pe)
       ∙ ap (laid (ownBy f p n)) (sym (leaves-is (ne-eqb f 0 z)))))
     where
       go : (b : Bool) → all ≡ laid (cond b (Stopped f p n) (Stopped 9 (f - 16) n)) o →
-          Listed d v i depth out n (unlisted (cond b (Stopped f p n) (Stopped 9 (f - 16) n))) o
-      go true e = record { listed = e; leads = λ m. never m; last = tt }
-      go false e = record { listed = e; leads = λ m. never m; last = tt }
+          Listed d v i depth m out n (unlisted (cond b (Stopped f p n) (Stopped 9 (f - 16) n))) o
+      go true e = record { listed = e; leads = λ q. never q; last = tt }
+      go false e = record { listed = e; leads = λ q. never q; last = tt }
 
   module _ (z : f ≡ 0) where
-    abbrev done : Seen d out n depth i (placeAt v i) from k what
-    done = seen-done d out n depth i (placeAt v i) from k what (entry-sound d v i) number-is z
+    abbrev done : Seen d out n depth i m (placeAt v i) from k what
+    done = seen-done d out n depth i m (placeAt v i) from k what (entry-sound d v i) number-is z
 
-    room-here : 8 * n + 8 ≤ length out
+    room-here : wide * n + wide ≤ length out
     room-here = room-for out n (done .fits)
 
     pub entry-small : n + 1 ≤ 4294967295
     entry-small = omega (arith, done .fits, room-small out)
 
-    pub entry-open : 8 * n + 8 ≤ length o
+    pub entry-open : wide * n + wide ≤ length o
     entry-open = let h : length o ≡ length out = ap length (leaves-is (eq-eqb f 0 z)) ∙ seen-length out n (sightOf what from) in omega (arith, room-here)
 
     -- it was, and its path put down after it leaves q, where its value leads to y
-    pub entry-listed : {q : List ℕ} {y : Leads} → q ≡ putPath o n depth i k → y ≡ leadsIn q n → Listed d v i depth out n (record { own = Done (n + 1); leads = y }) q
+    pub entry-listed : {q : List ℕ} {y : Leads} → q ≡ putPath o n depth i k m → y ≡ leadsIn q n → Listed d v i depth m out n (record { own = Done (n + 1); leads = y }) q
     entry-listed {q} {y} qe ye =
-        let e : q ≡ put out n (seenEvent depth i k (sightOf what from)) =
-        qe ∙ ap (λ (l : List ℕ). putPath l n depth i k) (leaves-is (eq-eqb f 0 z)) ∙ put-parts out n depth i k (sightOf what from) in
+        let e : q ≡ put out n (seenEvent depth i k m (sightOf what from)) =
+        qe ∙ ap (λ (l : List ℕ). putPath l n depth i k m) (leaves-is (eq-eqb f 0 z)) ∙ put-parts out n depth i k m (sightOf what from) in
         record {
           listed = value-of ∙ done .listed ∙ ap (laid (Done (n + 1))) (sym e);
-          leads = λ m. ye ∙ ap (λ (l : List ℕ). leadsIn l n) e ∙ seen-leads d out n depth i from k what (entry-sound d v i) (done .read) room-here;
+          leads = λ q. ye ∙ ap (λ (l : List ℕ). leadsIn l n) e ∙ seen-leads d out n depth i m from k what (entry-sound d v i) (done .read) room-here;
           last =
               subst (λ (l : List ℕ). Last d l (n + 1)) (sym e)
-              (seen-last d out n depth i from k what (entry-sound d v i) (done .read) (done .text) kt room-here);
+              (seen-last d out n depth i m from k what (entry-sound d v i) (done .read) (done .text) kt (done .fits));
         }
 
 -- the root has no key
 module _ (d out : List ℕ) where
   abbrev root : Laid
-  root = own out 0 (judged d 0 0 (rootStand d)) 0
+  root = own out 0 (judged d 0 0 0 (rootStand d)) 0
 
   abbrev root-at : Read → Laid
-  root-at y = own out 0 (valueJudged d (spot 0 0 0 noKey (rootStand d .from)) (readSaid y)) 0
+  root-at y = own out 0 (valueJudged d (spot 0 0 0 0 noKey (rootStand d .from)) (readSaid y)) 0
 
   root-by : root ≡ root-at (rootRead d)
-  root-by = key-text d 0 0 (rootStand d) 0 out 0 refl (no-key-text d)
+  root-by = key-text d 0 0 0 (rootStand d) 0 out 0 refl (no-key-text d)
 
   -- it is listed as the crate root_event lists it
   root-read : (y : Read) → root-at y ≡ lay (readNode d y) out 0
@@ -276,7 +280,7 @@ module _ (d out : List ℕ) where
   root-read (read.Value x) = go (valueText d x)
     where
       shown : Event
-      shown = eventOf (spot 0 0 0 noKey (rootStand d .from)) x
+      shown = eventOf (spot 0 0 0 0 noKey (rootStand d .from)) x
 
       go : (t : Utf8Check) → own out 0 (textThen t (good shown x)) 0 ≡ lay (textNode t (event shown 0 end)) out 0
       go Valid = refl
@@ -290,7 +294,7 @@ module _ (d out : List ℕ) where
   -- a root that was listed, by one event: its value was tested, and is read back
   pub record Rooted (o : List ℕ) (m : ℕ) : Type 0 where
     pub last : Last d o m
-    pub room : 8 ≤ length o
+    pub room : wide ≤ length o
     pub leads : leadsIn o 0 ≡ leadsTo (rootRead d)
 
   pub rooted : {w : Walked} {o : List ℕ} {m : ℕ} → root ≡ laid w o → w ≡ Done m → Rooted o m
@@ -300,7 +304,7 @@ module _ (d out : List ℕ) where
       first = rootStand d .from
 
       shown : Event
-      shown = seenEvent 0 0 noKey (sightOf (rootRead d) first)
+      shown = seenEvent 0 0 noKey 0 (sightOf (rootRead d) first)
 
       number : ℕ
       number = seenCode d (sightOf (rootRead d) first) out 0
@@ -314,21 +318,21 @@ module _ (d out : List ℕ) where
 
       go : (b : Bool) → eqb number 0 ≡ b → Rooted o m
       go true q =
-          let s = seen-done d out 0 0 0 0 first noKey (rootRead d) (root-sound d) refl (eqb-true number 0 q) in
+          let s = seen-done d out 0 0 0 0 0 first noKey (rootRead d) (root-sound d) refl (eqb-true number 0 q) in
           let h : laid (Done m) o ≡ laid (Done 1) (put out 0 shown) = sym ends ∙ s .listed in
           let x : o ≡ put out 0 shown = cc in
           let y : m ≡ 1 = cc in
-          let r : 8 * 0 + 8 ≤ length out = room-for out 0 (s .fits) in
+          let r : wide * 0 + wide ≤ length out = room-for out 0 (s .fits) in
           let t : Last d o 1 =
           subst (λ (l : List ℕ). Last d l 1) (sym x)
-          (seen-last d out 0 0 0 first noKey (rootRead d) (root-sound d) (s .read) (s .text) (no-key-text d) r) in
+          (seen-last d out 0 0 0 0 first noKey (rootRead d) (root-sound d) (s .read) (s .text) (no-key-text d) (s .fits)) in
           record {
             last = subst (Last d o) (sym y) t;
-            room = t .room;
-            leads = ap (λ (l : List ℕ). leadsIn l 0) x ∙ seen-leads d out 0 0 0 first noKey (rootRead d) (root-sound d) (s .read) r;
+            room = t .inside;
+            leads = ap (λ (l : List ℕ). leadsIn l 0) x ∙ seen-leads d out 0 0 0 0 first noKey (rootRead d) (root-sound d) (s .read) r;
           }
       go false q =
           let h : laid (ownBy number 0 0) out ≡ laid (Done m) o =
-          sym (seen-stopped d out 0 0 0 0 first noKey (rootRead d) (root-sound d) refl (eqb-false number 0 q)) ∙ ends in
+          sym (seen-stopped d out 0 0 0 0 0 first noKey (rootRead d) (root-sound d) refl (eqb-false number 0 q)) ∙ ends in
           let x : ownBy number 0 0 ≡ Done m = cc in
           by-code (ltb number 16) x

@@ -1,6 +1,5 @@
 -- An event that is laid down in two parts is the event, and what it says is read back.
 --     put-parts                what is seen and then the path is the event
---     put-code and others      the numbers of an event that was put down
 --     seen-value               what is seen of a value is text exactly when the value is
 --     seen-stopped, seen-done  a value that was judged by what is seen of it: not listed, or listed
 --     seen-leads               what the event's value leads to
@@ -13,8 +12,8 @@ use mathlib.Core.List.{List, [], _∷_}
 use Prim.Native.Nat.{ℕ, _+_, _*_, _-_, _%_, _≤_, _<_}
 use native.Mathlib.Omega.{arith}
 use lib.Dec.{ltb, eqb}
-use lib.ListN.{length, getD, set, length-set}
-use lib.Seq.{length-sets, getD-set-same, getD-set-other, set-comm}
+use lib.ListN.{length, getD, set}
+use lib.Seq.{length-sets, set-comm}
 use borrow.Author.Tests.{le-ltb, lt-ltb, ltb-true, eq-eqb, ne-eqb}
 use Rattle.layout.specs.declared.Kind.{Kind}
 use Rattle.layout.proofs.Cond.{yes, no}
@@ -35,7 +34,8 @@ use Rattle.events.specs.declared.Walked.the-variants.{Done, Stopped}
 use Rattle.events.specs.Events.{span, numbers, wide, kindCode, codeOf, partOf, extraOf, eventOf}
 use Rattle.events.specs.Text.{textAt, valueText}
 use Rattle.events.specs.Lay.{Laid, laid, lay, put, room}
-use Rattle.events.proofs.Cases.{run-of-stores}
+use Rattle.events.proofs.Cases.{room-for, run-of-stores, put-number}
+use Rattle.paths.proofs.Laid.{room-same}
 use Rattle.sight.specs.declared.Sight.{Sight}
 use Rattle.sight.specs.Sights.{sightOf}
 use Rattle.sight.specs.Course.{Numbered, Sound, SoundValue}
@@ -54,7 +54,7 @@ past-three l i j k m a b c v p q r =
     set-comm (set (set l i a) j b) k m c v r
     ∙ ap (λ (x : List ℕ). set x k c) (set-comm (set l i a) j m b v q ∙ ap (λ (x : List ℕ). set x j b) (set-comm l i m a v p))
 
-module _ (out : List ℕ) (a c s l x d i k m : ℕ) where
+module _ (out : List ℕ) (a c s l x d i k m p : ℕ) where
   -- the stores of the value, over a list
   abbrev seen : List ℕ → List ℕ
   seen y = set (set (set y (a + 5) s) (a + 6) l) (a + 7) x
@@ -65,100 +65,25 @@ module _ (out : List ℕ) (a c s l x d i k m : ℕ) where
   abbrev first : List ℕ
   first = set out a c
 
-  parts : set (set (set (set (seen first) (a + 1) d) (a + 2) i) (a + 3) k) (a + 4) m ≡
-      seen (set (set (set (set first (a + 1) d) (a + 2) i) (a + 3) k) (a + 4) m)
+  parts : set (set (set (set (set (seen first) (a + 1) d) (a + 2) i) (a + 3) k) (a + 4) m) (a + 8) p ≡
+      set (seen (set (set (set (set first (a + 1) d) (a + 2) i) (a + 3) k) (a + 4) m)) (a + 8) p
   parts =
-      ap (λ (y : List ℕ). set (set (set y (a + 2) i) (a + 3) k) (a + 4) m) (under first (a + 1) d (omega arith))
-      ∙ ap (λ (y : List ℕ). set (set y (a + 3) k) (a + 4) m) (under (set first (a + 1) d) (a + 2) i (omega arith))
-      ∙ ap (λ (y : List ℕ). set y (a + 4) m) (under (set (set first (a + 1) d) (a + 2) i) (a + 3) k (omega arith))
-      ∙ under (set (set (set first (a + 1) d) (a + 2) i) (a + 3) k) (a + 4) m (omega arith)
+      ap (λ (y : List ℕ). set (set (set (set y (a + 2) i) (a + 3) k) (a + 4) m) (a + 8) p) (under first (a + 1) d (omega arith))
+      ∙ ap (λ (y : List ℕ). set (set (set y (a + 3) k) (a + 4) m) (a + 8) p) (under (set first (a + 1) d) (a + 2) i (omega arith))
+      ∙ ap (λ (y : List ℕ). set (set y (a + 4) m) (a + 8) p) (under (set (set first (a + 1) d) (a + 2) i) (a + 3) k (omega arith))
+      ∙ ap (λ (y : List ℕ). set y (a + 8) p) (under (set (set (set first (a + 1) d) (a + 2) i) (a + 3) k) (a + 4) m (omega arith))
 
-pub put-parts : (out : List ℕ) (n depth i : ℕ) (k : Span) (x : Sight) → putPath (putSeen out n x) n depth i k ≡ put out n (seenEvent depth i k x)
+pub put-parts : (out : List ℕ) (n depth i : ℕ) (k : Span) (m : ℕ) (x : Sight) → putPath (putSeen out n x) n depth i k m ≡ put out n (seenEvent depth i k m x)
 unfolding putPath putSeen put
-put-parts out n depth i k x =
-    parts out (8 * n) (x .code) (x .part .start) (x .part .len) (x .extra) depth i (k .start) (k .len)
-    ∙ run-of-stores out (8 * n) (x .code) (depth ∷ i ∷ k .start ∷ k .len ∷ x .part .start ∷ x .part .len ∷ x .extra ∷ [])
+put-parts out n depth i k m x =
+    parts out (wide * n) (x .code) (x .part .start) (x .part .len) (x .extra) depth i (k .start) (k .len) m
+    ∙ run-of-stores out (wide * n) (x .code) (depth ∷ i ∷ k .start ∷ k .len ∷ x .part .start ∷ x .part .len ∷ x .extra ∷ m ∷ [])
 
--- ---- the numbers of an event that was put down, of which there is room for
-module _ (out : List ℕ) (n : ℕ) (e : Event) (h : 8 * n + 8 ≤ length out) where
-  -- a store at another place changes nothing here
-  other : (l : List ℕ) (i j a : ℕ) → (j ≡ i → ⊥) → getD (set l i a) j 0 ≡ getD l j 0
-  other l i j a q = getD-set-other l i j a 0 q
-
-  -- the stores before the one at k, and those after it
-  abbrev at : ℕ → ℕ
-  at k = 8 * n + k
-
-  abbrev upto0 : List ℕ
-  upto0 = set out (8 * n) (e .code)
-
-  abbrev upto1 : List ℕ
-  upto1 = set upto0 (at 1) (e .depth)
-
-  abbrev upto2 : List ℕ
-  upto2 = set upto1 (at 2) (e .position)
-
-  abbrev upto3 : List ℕ
-  upto3 = set upto2 (at 3) (e .key .start)
-
-  abbrev upto4 : List ℕ
-  upto4 = set upto3 (at 4) (e .key .len)
-
-  abbrev upto5 : List ℕ
-  upto5 = set upto4 (at 5) (e .part .start)
-
-  abbrev upto6 : List ℕ
-  upto6 = set upto5 (at 6) (e .part .len)
-
-  abbrev upto7 : List ℕ
-  upto7 = set upto6 (at 7) (e .extra)
-
-  put-is : put out n e ≡ upto7
-  unfolding put
-  put-is = sym (run-of-stores out (8 * n) (e .code) (e .depth ∷ e .position ∷ e .key .start ∷ e .key .len ∷ e .part .start ∷ e .part .len ∷ e .extra ∷ []))
-
-  put-at : (k : ℕ) {x : ℕ} → getD upto7 k 0 ≡ x → getD (put out n e) k 0 ≡ x
-  put-at k q = ap (λ (l : List ℕ). getD l k 0) put-is ∙ q
-
-  pub put-extra : getD (put out n e) (8 * n + 7) 0 ≡ e .extra
-  put-extra = put-at (at 7) (getD-set-same upto6 (at 7) (e .extra) 0 (simp length-set (omega arith)))
-
-  pub put-len : getD (put out n e) (8 * n + 6) 0 ≡ e .part .len
-  put-len =
-      put-at (at 6) (other upto6 (at 7) (at 6) (e .extra) (λ q. omega arith)
-      ∙ getD-set-same upto5 (at 6) (e .part .len) 0 (simp length-set (omega arith)))
-
-  pub put-start : getD (put out n e) (8 * n + 5) 0 ≡ e .part .start
-  put-start =
-      put-at (at 5) (other upto6 (at 7) (at 5) (e .extra) (λ q. omega arith)
-      ∙ other upto5 (at 6) (at 5) (e .part .len) (λ q. omega arith)
-      ∙ getD-set-same upto4 (at 5) (e .part .start) 0 (simp length-set (omega arith)))
-
-  pub put-key-len : getD (put out n e) (8 * n + 4) 0 ≡ e .key .len
-  put-key-len =
-      put-at (at 4) (other upto6 (at 7) (at 4) (e .extra) (λ q. omega arith)
-      ∙ other upto5 (at 6) (at 4) (e .part .len) (λ q. omega arith)
-      ∙ other upto4 (at 5) (at 4) (e .part .start) (λ q. omega arith)
-      ∙ getD-set-same upto3 (at 4) (e .key .len) 0 (simp length-set (omega arith)))
-
-  pub put-key-start : getD (put out n e) (8 * n + 3) 0 ≡ e .key .start
-  put-key-start =
-      put-at (at 3) (other upto6 (at 7) (at 3) (e .extra) (λ q. omega arith)
-      ∙ other upto5 (at 6) (at 3) (e .part .len) (λ q. omega arith)
-      ∙ other upto4 (at 5) (at 3) (e .part .start) (λ q. omega arith)
-      ∙ other upto3 (at 4) (at 3) (e .key .len) (λ q. omega arith)
-      ∙ getD-set-same upto2 (at 3) (e .key .start) 0 (simp length-set (omega arith)))
-
-  pub put-code : getD (put out n e) (8 * n) 0 ≡ e .code
-  put-code =
-      put-at (8 * n) (other upto6 (at 7) (8 * n) (e .extra) (λ q. omega arith)
-      ∙ other upto5 (at 6) (8 * n) (e .part .len) (λ q. omega arith)
-      ∙ other upto4 (at 5) (8 * n) (e .part .start) (λ q. omega arith)
-      ∙ other upto3 (at 4) (8 * n) (e .key .len) (λ q. omega arith)
-      ∙ other upto2 (at 3) (8 * n) (e .key .start) (λ q. omega arith)
-      ∙ other upto1 (at 2) (8 * n) (e .position) (λ q. omega arith)
-      ∙ other upto0 (at 1) (8 * n) (e .depth) (λ q. omega arith)
-      ∙ getD-set-same out (8 * n) (e .code) 0 (omega arith))
+-- the code of an event that was put down is its first number
+put-code : (out : List ℕ) (n : ℕ) (e : Event) → wide * n + wide ≤ length out → getD (put out n e) (wide * n) 0 ≡ e .code
+put-code out n e h =
+    let z : wide * n ≡ wide * n + 0 = omega arith in
+    ap (λ (i : ℕ). getD (put out n e) i 0) z ∙ put-number out n e h 0 (omega arith)
 
 -- ---- what is seen of a value is text exactly when the value is, and breaks where it breaks
 no-string : (k : Kind) → eqb (kindCode k) 12 ≡ false
@@ -177,23 +102,23 @@ seen-value d from (value.Scalar t s) h = h .1 d from
 seen-value d from (value.Container v) h = ap (λ (b : Bool). cond b (textAt d (span (v .start) (v .size))) Valid) (no-string (v .kind))
 
 -- ---- a value that was read and is judged by what is seen of it; f is what its listing answers as the callee gives it
-module _ (d out : List ℕ) (n depth i p from : ℕ) (k : Span) where
+module _ (d out : List ℕ) (n depth i m p from : ℕ) (k : Span) where
   abbrev judgedAs : Read → Laid
-  judgedAs r = lay (node (valueJudged d (spot depth i p k from) (readSaid r)) p childless) out n
+  judgedAs r = lay (node (valueJudged d (spot depth i m p k from) (readSaid r)) p childless) out n
 
   -- by what is said of its text and whether there is room
   abbrev codeBy : Utf8Check → Bool → ℕ
   codeBy t fits = textCode t (cond fits 0 12)
 
   abbrev by : Value → Utf8Check → Bool → Laid
-  by x Valid fits = cond fits (laid (Done (n + 1)) (put out n (eventOf (spot depth i p k from) x))) (laid (Stopped 12 p n) out)
+  by x Valid fits = cond fits (laid (Done (n + 1)) (put out n (eventOf (spot depth i m p k from) x))) (laid (Stopped 12 p n) out)
   by x (Bad q) fits = laid (Stopped 9 q n) out
 
   value-by : (x : Value) → judgedAs (read.Value x) ≡ by x (valueText d x) (ltb n (room out))
   unfolding lay
   value-by x = go (valueText d x)
     where
-      go : (t : Utf8Check) → lay (node (textThen t (good (eventOf (spot depth i p k from) x) x)) p childless) out n ≡ by x t (ltb n (room out))
+      go : (t : Utf8Check) → lay (node (textThen t (good (eventOf (spot depth i m p k from) x) x)) p childless) out n ≡ by x t (ltb n (room out))
       go Valid = refl
       go (Bad q) = refl
 
@@ -201,14 +126,14 @@ module _ (d out : List ℕ) (n depth i p from : ℕ) (k : Span) where
   unfolding seenCode
   code-value x h = ap (λ (t : Utf8Check). codeBy t (ltb n (room out))) (seen-value d from x h)
 
-  code-refused : (m : ℕ) → Numbered m → seenCode d (sightOf (read.Refused m) from) out n ≡ m
+  code-refused : (f : ℕ) → Numbered f → seenCode d (sightOf (read.Refused f) from) out n ≡ f
   unfolding seenCode
-  code-refused m h =
-      ap (λ (b : Bool). cond b (codeBy (seenText d (sightOf (read.Refused m) from)) (ltb n (room out))) m) (ne-eqb m 0 (λ z. omega arith))
+  code-refused f h =
+      ap (λ (b : Bool). cond b (codeBy (seenText d (sightOf (read.Refused f) from)) (ltb n (room out))) f) (ne-eqb f 0 (λ z. omega arith))
 
   -- not listed
-  own-number : (m : ℕ) → m < 16 → laid (Stopped m p n) out ≡ laid (ownBy m p n) out
-  own-number m h = ap (λ (w : Walked). laid w out) (yes _ (lt-ltb m 16 h) refl)
+  own-number : (f : ℕ) → f < 16 → laid (Stopped f p n) out ≡ laid (ownBy f p n) out
+  own-number f h = ap (λ (w : Walked). laid w out) (yes _ (lt-ltb f 16 h) refl)
 
   own-break : (q : ℕ) → laid (Stopped 9 q n) out ≡ laid (ownBy (16 + q) p n) out
   own-break q =
@@ -226,7 +151,7 @@ module _ (d out : List ℕ) (n depth i p from : ℕ) (k : Span) where
       go Valid true e = absurd (z e)
       go Valid false e = own-number 12 (omega arith) ∙ to e
       go (Bad q) b e = own-break q ∙ to e
-  seen-stopped (read.Refused m) h {f} fe z = own-number m (h .1) ∙ ap (λ (a : ℕ). laid (ownBy a p n) out) (sym (fe ∙ code-refused m h))
+  seen-stopped (read.Refused g) h {f} fe z = own-number g (h .1) ∙ ap (λ (a : ℕ). laid (ownBy a p n) out) (sym (fe ∙ code-refused g h))
 
   -- listed: there was room, and the value is text
   pub record Seen (r : Read) : Type 0 where
@@ -234,7 +159,7 @@ module _ (d out : List ℕ) (n depth i p from : ℕ) (k : Span) where
     pub read : r ≡ read.Value value
     pub text : valueText d value ≡ Valid
     pub fits : n < room out
-    pub listed : judgedAs r ≡ laid (Done (n + 1)) (put out n (seenEvent depth i k (sightOf r from)))
+    pub listed : judgedAs r ≡ laid (Done (n + 1)) (put out n (seenEvent depth i k m (sightOf r from)))
 
   pub seen-done : (r : Read) → Sound r → {f : ℕ} → f ≡ seenCode d (sightOf r from) out n → f ≡ 0 → Seen r
   seen-done (read.Value x) h {f} fe z = go (valueText d x) (ltb n (room out)) refl refl (sym z ∙ fe ∙ code-value x h)
@@ -250,7 +175,7 @@ module _ (d out : List ℕ) (n depth i p from : ℕ) (k : Span) where
           }
       go Valid false t u e = absurd (omega arith)
       go (Bad q) b t u e = absurd (omega arith)
-  seen-done (read.Refused m) h {f} fe z = let e : m ≡ 0 = sym (code-refused m h) ∙ sym fe ∙ z in absurd (omega (arith, h .0))
+  seen-done (read.Refused g) h {f} fe z = let e : g ≡ 0 = sym (code-refused g h) ∙ sym fe ∙ z in absurd (omega (arith, h .0))
 
 -- ---- what an event that was put down leads to
 -- by its numbers
@@ -272,47 +197,50 @@ value-leads (value.Scalar t s) from h = sym (yes _ (lt-ltb 3 (typeCode t) (h .0)
 value-leads (value.Container v) from h = container-leads v
 
 -- it is read back
-pub seen-leads : (d out : List ℕ) (n depth i from : ℕ) (k : Span) (r : Read) → Sound r → {x : Value} → r ≡ read.Value x → 8 * n + 8 ≤ length out →
-    leadsIn (put out n (seenEvent depth i k (sightOf r from))) n ≡ leadsTo r
+pub seen-leads : (d out : List ℕ) (n depth i m from : ℕ) (k : Span) (r : Read) → Sound r → {x : Value} → r ≡ read.Value x → wide * n + wide ≤ length out →
+    leadsIn (put out n (seenEvent depth i k m (sightOf r from))) n ≡ leadsTo r
 unfolding leadsIn
-seen-leads d out n depth i from k (read.Value x) h e f =
-    let v = seenEvent depth i k (sightOf (read.Value x) from) in
+seen-leads d out n depth i m from k (read.Value x) h e f =
+    let v = seenEvent depth i k m (sightOf (read.Value x) from) in
     let o = put out n v in
-    ap (λ (c : ℕ). leadsFrom c (getD o (8 * n + 5) 0) (getD o (8 * n + 6) 0) (getD o (8 * n + 7) 0)) (put-code out n v f)
-    ∙ ap (λ (s : ℕ). leadsFrom (codeOf x) s (getD o (8 * n + 6) 0) (getD o (8 * n + 7) 0)) (put-start out n v f)
-    ∙ ap (λ (l : ℕ). leadsFrom (codeOf x) (partOf x from .start) l (getD o (8 * n + 7) 0)) (put-len out n v f)
-    ∙ ap (λ (m : ℕ). leadsFrom (codeOf x) (partOf x from .start) (partOf x from .len) m) (put-extra out n v f)
+    ap (λ (c : ℕ). leadsFrom c (getD o (wide * n + 5) 0) (getD o (wide * n + 6) 0) (getD o (wide * n + 7) 0)) (put-code out n v f)
+    ∙ ap (λ (s : ℕ). leadsFrom (codeOf x) s (getD o (wide * n + 6) 0) (getD o (wide * n + 7) 0)) (put-number out n v f 5 (omega arith))
+    ∙ ap (λ (l : ℕ). leadsFrom (codeOf x) (partOf x from .start) l (getD o (wide * n + 7) 0)) (put-number out n v f 6 (omega arith))
+    ∙ ap (λ (e : ℕ). leadsFrom (codeOf x) (partOf x from .start) (partOf x from .len) e) (put-number out n v f 7 (omega arith))
     ∙ value-leads x from h
-seen-leads d out n depth i from k (read.Refused m) h {x} e f = let z : _≡_ {A = ℕ} 0 1 = cc in absurd (omega arith)
+seen-leads d out n depth i m from k (read.Refused g) h {x} e f = let z : _≡_ {A = ℕ} 0 1 = cc in absurd (omega arith)
 
 -- ---- such an event was tested
 put-length : (out : List ℕ) (n : ℕ) (e : Event) → length (put out n e) ≡ length out
 unfolding put
 put-length out n e = length-sets out (wide * n) (numbers e)
 
-module _ (d out : List ℕ) (n depth i from : ℕ) (k : Span) (x : Value) (h : SoundValue x) (t : valueText d x ≡ Valid) (kt : textAt d k ≡ Valid) (f : 8 * n + 8 ≤ length out) where
+module _ (d out : List ℕ) (n depth i m from : ℕ) (k : Span) (x : Value) (h : SoundValue x) (t : valueText d x ≡ Valid) (kt : textAt d k ≡ Valid) (f : n < room out) where
   abbrev e : Event
-  e = seenEvent depth i k (sightOf (read.Value x) from)
+  e = seenEvent depth i k m (sightOf (read.Value x) from)
 
   abbrev o : List ℕ
   o = put out n e
 
-  there : 8 * (n + 1) - 8 ≡ 8 * n
+  there : wide * (n + 1) - wide ≡ wide * n
   there = omega arith
 
-  key-text : textAt d (span (getD o (8 * n + 3) 0) (getD o (8 * n + 4) 0)) ≡ Valid
+  within : wide * n + wide ≤ length out
+  within = room-for out n f
+
+  key-text : textAt d (span (getD o (wide * n + 3) 0) (getD o (wide * n + 4) 0)) ≡ Valid
   key-text =
-      ap (λ (a : ℕ). textAt d (span a (getD o (8 * n + 4) 0))) (put-key-start out n e f)
-      ∙ ap (λ (a : ℕ). textAt d (span (k .start) a)) (put-key-len out n e f)
+      ap (λ (a : ℕ). textAt d (span a (getD o (wide * n + 4) 0))) (put-number out n e within 3 (omega arith))
+      ∙ ap (λ (a : ℕ). textAt d (span (k .start) a)) (put-number out n e within 4 (omega arith))
       ∙ kt
 
   -- a value that is text and has the code of strings is a string that is text
-  value-text : getD o (8 * n) 0 ≡ 12 → textAt d (span (getD o (8 * n + 5) 0) (getD o (8 * n + 6) 0)) ≡ Valid
+  value-text : getD o (wide * n) 0 ≡ 12 → textAt d (span (getD o (wide * n + 5) 0) (getD o (wide * n + 6) 0)) ≡ Valid
   unfolding seenText
   value-text q =
-      ap (λ (a : ℕ). textAt d (span a (getD o (8 * n + 6) 0))) (put-start out n e f)
-      ∙ ap (λ (a : ℕ). textAt d (span (partOf x from .start) a)) (put-len out n e f)
-      ∙ yes _ (eq-eqb (codeOf x) 12 (sym (put-code out n e f) ∙ q)) refl
+      ap (λ (a : ℕ). textAt d (span a (getD o (wide * n + 6) 0))) (put-number out n e within 5 (omega arith))
+      ∙ ap (λ (a : ℕ). textAt d (span (partOf x from .start) a)) (put-number out n e within 6 (omega arith))
+      ∙ yes _ (eq-eqb (codeOf x) 12 (sym (put-code out n e within) ∙ q)) refl
       ∙ seen-value d from x h
       ∙ t
 
@@ -320,13 +248,14 @@ module _ (d out : List ℕ) (n depth i from : ℕ) (k : Span) (x : Value) (h : S
   last-value =
       record {
         some = omega arith;
-        room = omega (arith, put-length out n e);
+        fits = omega (arith, room-same o out (put-length out n e));
+        inside = omega (arith, put-length out n e, within);
         key = ap (λ (a : ℕ). textAt d (span (getD o (a + 3) 0) (getD o (a + 4) 0))) there ∙ key-text;
         text = λ q. ap (λ (a : ℕ). textAt d (span (getD o (a + 5) 0) (getD o (a + 6) 0))) there ∙ value-text (ap (λ (a : ℕ). getD o a 0) (sym there) ∙ q);
       }
 
-pub seen-last : (d out : List ℕ) (n depth i from : ℕ) (k : Span) (r : Read) → Sound r → {x : Value} → r ≡ read.Value x → valueText d x ≡ Valid → textAt d k ≡ Valid →
-    8 * n + 8 ≤ length out → Last d (put out n (seenEvent depth i k (sightOf r from))) (n + 1)
-seen-last d out n depth i from k r h {x} re t kt f =
-    subst (λ (y : Read). Last d (put out n (seenEvent depth i k (sightOf y from))) (n + 1)) (sym re)
-    (last-value d out n depth i from k x (subst Sound re h) t kt f)
+pub seen-last : (d out : List ℕ) (n depth i m from : ℕ) (k : Span) (r : Read) → Sound r → {x : Value} → r ≡ read.Value x → valueText d x ≡ Valid → textAt d k ≡ Valid →
+    n < room out → Last d (put out n (seenEvent depth i k m (sightOf r from))) (n + 1)
+seen-last d out n depth i m from k r h {x} re t kt f =
+    subst (λ (y : Read). Last d (put out n (seenEvent depth i k m (sightOf y from))) (n + 1)) (sym re)
+    (last-value d out n depth i m from k x (subst Sound re h) t kt f)

@@ -12,6 +12,7 @@ use Rattle.content.specs.Reading.{kind, view}
 use Rattle.events.specs.declared.Event.{Event}
 use Rattle.events.specs.declared.Walked.{Walked}
 use Rattle.events.specs.declared.Walked.the-variants.{Stopped}
+use Rattle.events.specs.Events.{wide}
 use Rattle.events.specs.Text.{textAt}
 use Rattle.events.specs.Lay.{room}
 use Rattle.sight.specs.declared.Sight.{Sight}
@@ -36,16 +37,18 @@ seenCode d x out n = cond (eqb (x .refusal) 0) (textCode (seenText d x) (cond (l
 abbrev pub ownBy : ℕ → ℕ → ℕ → Walked
 ownBy f p n = cond (ltb f 16) (Stopped f p n) (Stopped 9 (f - 16) n)
 
--- the event that shows it at the end of a path
-abbrev pub seenEvent : ℕ → ℕ → Span → Sight → Event
-seenEvent depth i k x = record { code = x .code; depth = depth; position = i; key = k; part = x .part; extra = x .extra }
+-- the event that shows it at the end of a path, in the container of event m
+abbrev pub seenEvent : ℕ → ℕ → Span → ℕ → Sight → Event
+seenEvent depth i k m x = record { code = x .code; depth = depth; position = i; key = k; part = x .part; extra = x .extra; parent = m }
 
 -- its numbers in event n, and those of the path
 unfoldable pub putSeen : List ℕ → ℕ → Sight → List ℕ
-putSeen out n x = set (set (set (set out (8 * n) (x .code)) (8 * n + 5) (x .part .start)) (8 * n + 6) (x .part .len)) (8 * n + 7) (x .extra)
+putSeen out n x =
+    set (set (set (set out (wide * n) (x .code)) (wide * n + 5) (x .part .start)) (wide * n + 6) (x .part .len)) (wide * n + 7) (x .extra)
 
-unfoldable pub putPath : List ℕ → ℕ → ℕ → ℕ → Span → List ℕ
-putPath out n depth i k = set (set (set (set out (8 * n + 1) depth) (8 * n + 2) i) (8 * n + 3) (k .start)) (8 * n + 4) (k .len)
+unfoldable pub putPath : List ℕ → ℕ → ℕ → ℕ → Span → ℕ → List ℕ
+putPath out n depth i k m =
+    set (set (set (set (set out (wide * n + 1) depth) (wide * n + 2) i) (wide * n + 3) (k .start)) (wide * n + 4) (k .len)) (wide * n + 8) m
 
 -- what is left after a number of the listing
 unfoldable pub seenLeaves : ℕ → Sight → List ℕ → ℕ → List ℕ
@@ -54,9 +57,9 @@ seenLeaves f x out n = cond (eqb f 0) (putSeen out n x) out
 -- what the value of event n leads to: the codes 0 to 3 are containers, below 2 objects, and odd ones are large
 unfoldable pub leadsIn : List ℕ → ℕ → Leads
 leadsIn out n =
-    cond (ltb 3 (getD out (8 * n) 0)) Nothing
-    (leadsBy (view (getD out (8 * n + 5) 0) (getD out (8 * n + 6) 0) (getD out (8 * n + 7) 0) (kind (ltb (getD out (8 * n) 0) 2) (eqb (getD out (8 * n) 0 % 2) 1)))
-    (ltb (getD out (8 * n) 0) 2))
+    cond (ltb 3 (getD out (wide * n) 0)) Nothing
+    (leadsBy (view (getD out (wide * n + 5) 0) (getD out (wide * n + 6) 0) (getD out (wide * n + 7) 0) (kind (ltb (getD out (wide * n) 0) 2) (eqb (getD out (wide * n) 0 % 2) 1)))
+    (ltb (getD out (wide * n) 0) 2))
 
 -- a child that was not listed
 abbrev pub unlisted : Walked → Child

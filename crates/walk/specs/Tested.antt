@@ -9,28 +9,29 @@ use Rattle.value.specs.declared.View.{View}
 use Rattle.entry.specs.Entries.{placeAt, entryRead}
 use Rattle.events.specs.declared.Walked.{Walked}
 use Rattle.events.specs.declared.Walked.the-variants.{Done, Stopped}
-use Rattle.events.specs.Events.{span}
+use Rattle.events.specs.Events.{span, wide}
 use Rattle.events.specs.Text.{textAt}
 use Rattle.paths.specs.Judged.{judged, node, childless}
-use Rattle.events.specs.Lay.{lay, laid}
+use Rattle.events.specs.Lay.{lay, laid, room}
 use Rattle.paths.specs.Levels.{entryStand}
 use Rattle.walk.specs.Course.{leadsTo}
 use Rattle.walk.specs.declared.Child.{Child}
 
--- what the last of n events shows was tested: its key, and its value where that is a string
+-- what the last of n events shows was tested: its key, and its value where that is a string; there was room for it, and it lies within the list
 pub record Last (d out : List ℕ) (n : ℕ) : Type 0 where
   pub some : 1 ≤ n
-  pub room : 8 * n ≤ length out
-  pub key : textAt d (span (getD out (8 * n - 8 + 3) 0) (getD out (8 * n - 8 + 4) 0)) ≡ Valid
-  pub text : getD out (8 * n - 8) 0 ≡ 12 → textAt d (span (getD out (8 * n - 8 + 5) 0) (getD out (8 * n - 8 + 6) 0)) ≡ Valid
+  pub fits : n ≤ room out
+  pub inside : wide * n ≤ length out
+  pub key : textAt d (span (getD out (wide * n - wide + 3) 0) (getD out (wide * n - wide + 4) 0)) ≡ Valid
+  pub text : getD out (wide * n - wide) 0 ≡ 12 → textAt d (span (getD out (wide * n - wide + 5) 0) (getD out (wide * n - wide + 6) 0)) ≡ Valid
 
 -- a walk that was done leaves such an event
 abbrev pub Kept : List ℕ → Walked → List ℕ → Type 0
 Kept d (Done m) out = Last d out m
 Kept d (Stopped f p m) out = Unit {0}
 
--- entry i, listed by itself from event n on over the list out, which is left as o
-pub record Listed (d : List ℕ) (v : View) (i depth : ℕ) (out : List ℕ) (n : ℕ) (c : Child) (o : List ℕ) : Type 0 where
-  pub listed : lay (node (judged d depth i (entryStand d v i)) (placeAt v i) childless) out n ≡ laid (c .own) o
-  pub leads : {m : ℕ} → c .own ≡ Done m → c .leads ≡ leadsTo (entryRead d v i)
+-- entry i of the container of event m, listed by itself from event n on over the list out, which is left as o
+pub record Listed (d : List ℕ) (v : View) (i depth m : ℕ) (out : List ℕ) (n : ℕ) (c : Child) (o : List ℕ) : Type 0 where
+  pub listed : lay (node (judged d depth i m (entryStand d v i)) (placeAt v i) childless) out n ≡ laid (c .own) o
+  pub leads : {k : ℕ} → c .own ≡ Done k → c .leads ≡ leadsTo (entryRead d v i)
   pub last : Kept d (c .own) o

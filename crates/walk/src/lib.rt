@@ -7,7 +7,7 @@ use value::Span;
 use value::View;
 ghost use mathlib.Core.Path.{_≡_};
 ghost use mathlib.Core.Bool.{true, false};
-ghost use Prim.Native.Nat.{_+_, _*_, _<_, _≤_};
+ghost use Prim.Native.Nat.{_+_, _*_, _-_, _<_, _≤_};
 ghost use lib.ListN.{length, take, drop};
 ghost use Rattle.raw.specs.Numbers.{value as valueOf};
 ghost use Rattle.layout.specs.Layout.{offsetSize, keyEntry, offsetAt};
@@ -15,6 +15,7 @@ ghost use Rattle.value.specs.declared.Value.the-variants.{Container};
 ghost use Rattle.header.specs.Course.{Within};
 ghost use Rattle.content.specs.Reading.{kind};
 ghost use Rattle.entry.specs.Entries.{endOf, keyOf};
+ghost use Rattle.events.specs.Events.{wide as eventWide};
 ghost use Rattle.events.specs.Text.{textAt, isValid};
 ghost use Rattle.events.specs.Lay.{lay, laid, room as roomOf};
 ghost use Rattle.sight.specs.Sights.{sightAt};
@@ -118,7 +119,7 @@ fn is_key(doc: &[u8], out: &[u32], n: usize, key: Span) -> bool
     requires { ⌜ Last (now doc) (now out) n ⌝ }
     ensures { λ r. ⌜ r ≡ isValid (textAt (now (doc .entry)) key) ⌝ }
 {
-    let at = 8 * n - 8;
+    let at = events::WIDE * n - events::WIDE;
     if out[at + 3] == key.start {
         if out[at + 4] == key.len {
             return true;
@@ -136,7 +137,7 @@ fn is_seen_text(doc: &[u8], out: &[u32], n: usize, x: Sight) -> bool
         return true;
     }
     let part = x.part;
-    let at = 8 * n - 8;
+    let at = events::WIDE * n - events::WIDE;
     if out[at + 5] == part.start {
         if out[at + 6] == part.len {
             if out[at] == 12 {
@@ -175,7 +176,7 @@ fn list_entry(
     if room <= n {
         return refusal::EVENTS as usize;
     }
-    let at = 8 * n;
+    let at = events::WIDE * n;
     out[at] = x.code;
     out[at + 5] = part.start;
     out[at + 6] = part.len;
@@ -183,24 +184,25 @@ fn list_entry(
     0
 }
 
-// The path of an event whose value was listed.
-fn put_path(out: &mut [u32], n: usize, depth: u32, position: u32, key: Span)
-    requires { ⌜ 8 * n + 8 ≤ length (now out) ⌝ }
-    ensures { λ _. ⌜ now (out .exit) ≡ putPath (now (out .entry)) n depth position key ⌝ }
+// The path of an event whose value was listed, and the index of its container's event.
+fn put_path(out: &mut [u32], n: usize, depth: u32, position: u32, key: Span, parent: u32)
+    requires { ⌜ eventWide * n + eventWide ≤ length (now out) ⌝ }
+    ensures { λ _. ⌜ now (out .exit) ≡ putPath (now (out .entry)) n depth position key parent ⌝ }
 {
-    let at = 8 * n;
+    let at = events::WIDE * n;
     out[at + 1] = depth;
     out[at + 2] = position;
     out[at + 3] = key.start;
     out[at + 4] = key.len;
+    out[at + 8] = parent;
 }
 
 // What the value of event n leads to.
 fn leads_at(out: &[u32], n: usize) -> Leads
-    requires { ⌜ 8 * n + 8 ≤ length (now out) ⌝ }
+    requires { ⌜ eventWide * n + eventWide ≤ length (now out) ⌝ }
     ensures { λ r. ⌜ r ≡ leadsIn (now (out .entry)) n ⌝ }
 {
-    let at = 8 * n;
+    let at = events::WIDE * n;
     let code = out[at];
     if 3 < code {
         return Leads::Nothing;
@@ -247,10 +249,11 @@ fn list_element(
     v: View,
     i: u32,
     depth: u32,
+    parent: u32,
     room: usize,
 ) -> Child
     requires { ⌜ (v .kind .object ≡ false) × (Last (now doc) (now out) n × (room ≡ roomOf (now out))) ⌝ }
-    ensures { λ c. ⌜ Listed (now (doc .entry)) v i depth (now (out .entry)) n c (now (out .exit)) ⌝ }
+    ensures { λ c. ⌜ Listed (now (doc .entry)) v i depth parent (now (out .entry)) n c (now (out .exit)) ⌝ }
 {
     let k = as_kind(false, v);
     let place = v.start as usize + k.value_place(v.count, i);
@@ -258,7 +261,7 @@ fn list_element(
     if code != 0 {
         return stopped_by(code, place, n);
     }
-    put_path(out, n, depth, i, Span { start: 0, len: 0 });
+    put_path(out, n, depth, i, Span { start: 0, len: 0 }, parent);
     Child {
         own: Walked::Done { count: n + 1 },
         leads: leads_at(out, n),
@@ -273,11 +276,12 @@ fn list_member(
     v: View,
     i: u32,
     depth: u32,
+    parent: u32,
     room: usize,
 ) -> Child
     requires { ⌜ (v .kind .object ≡ true) × (Last (now doc) (now out) n × (room ≡ roomOf (now out))) ⌝ }
     requires { ⌜ Fit (now doc) v × (i < v .count) ⌝ }
-    ensures { λ c. ⌜ Listed (now (doc .entry)) v i depth (now (out .entry)) n c (now (out .exit)) ⌝ }
+    ensures { λ c. ⌜ Listed (now (doc .entry)) v i depth parent (now (out .entry)) n c (now (out .exit)) ⌝ }
 {
     let k = as_kind(true, v);
     let key_place = v.start as usize + k.key_place(i);
@@ -292,7 +296,7 @@ fn list_member(
             if code != 0 {
                 return stopped_by(code, place, n);
             }
-            put_path(out, n, depth, i, key);
+            put_path(out, n, depth, i, key, parent);
             Child {
                 own: Walked::Done { count: n + 1 },
                 leads: leads_at(out, n),
@@ -313,9 +317,10 @@ fn walk_array(
 ) -> Walked
     requires { ⌜ (levels ≤ 100) × (view .kind .object ≡ false) ⌝ }
     requires { ⌜ Fit (now doc) view × (Last (now doc) (now out) from × (room ≡ roomOf (now out))) ⌝ }
-    ensures { λ r. ⌜ lay (children levels (now (doc .entry)) (Container view)) (now (out .entry)) from ≡ laid r (now (out .exit)) ⌝ }
+    ensures { λ r. ⌜ lay (children levels (now (doc .entry)) (from - 1) (Container view)) (now (out .entry)) from ≡ laid r (now (out .exit)) ⌝ }
     ensures { λ r. ⌜ Kept (now (doc .entry)) r (now (out .exit)) ⌝ }
 {
+    let parent = (from - 1) as u32;
     let mut n = from;
     let mut i: u32 = 0;
     let count = view.count;
@@ -327,7 +332,7 @@ fn walk_array(
                 count: n,
             };
         }
-        let c = list_element(doc, out, n, view, i, 101 - levels, room);
+        let c = list_element(doc, out, n, view, i, 101 - levels, parent, room);
         let own = c.own;
         let Walked::Done { count: m } = own else {
             return own;
@@ -358,9 +363,10 @@ fn walk_object(
 ) -> Walked
     requires { ⌜ (levels ≤ 100) × (view .kind .object ≡ true) ⌝ }
     requires { ⌜ Fit (now doc) view × (Last (now doc) (now out) from × (room ≡ roomOf (now out))) ⌝ }
-    ensures { λ r. ⌜ lay (children levels (now (doc .entry)) (Container view)) (now (out .entry)) from ≡ laid r (now (out .exit)) ⌝ }
+    ensures { λ r. ⌜ lay (children levels (now (doc .entry)) (from - 1) (Container view)) (now (out .entry)) from ≡ laid r (now (out .exit)) ⌝ }
     ensures { λ r. ⌜ Kept (now (doc .entry)) r (now (out .exit)) ⌝ }
 {
+    let parent = (from - 1) as u32;
     let mut n = from;
     let mut i: u32 = 0;
     let count = view.count;
@@ -372,7 +378,7 @@ fn walk_object(
                 count: n,
             };
         }
-        let c = list_member(doc, out, n, view, i, 101 - levels, room);
+        let c = list_member(doc, out, n, view, i, 101 - levels, parent, room);
         let own = c.own;
         let Walked::Done { count: m } = own else {
             return own;
@@ -392,7 +398,7 @@ fn walk_object(
     Walked::Done { count: n }
 }
 
-// Lists every path of the document, as far as there is room: an event of eight lent numbers each.
+// Lists every path of the document, as far as there is room: an event of nine lent numbers each.
 pub fn walk(doc: &[u8], out: &mut [u32]) -> Walked
     ensures { λ r. ⌜ Walks (now (doc .entry)) (now (out .entry)) r (now (out .exit)) ⌝ }
 {

@@ -12,7 +12,7 @@ fn wide(n: u32) -> u64 {
 
 // A number of an event: the first of them after a slash.
 fn put_cell(out: &mut [u8], at: usize, i: usize, n: u64) -> usize {
-    if i % 8 == 0 {
+    if i % events::WIDE == 0 {
         let next = put(out, at, b" /");
         return put_next(out, next, n);
     }
@@ -20,12 +20,12 @@ fn put_cell(out: &mut [u8], at: usize, i: usize, n: u64) -> usize {
 }
 
 // The first events and their count.
-fn put_events(out: &mut [u8], at: usize, events: &[u32], count: usize) -> usize {
+fn put_events(out: &mut [u8], at: usize, numbers: &[u32], count: usize) -> usize {
     let mut next = put_number(out, at, count as u64);
-    if count <= events.len() / 8 {
-        let end = 8 * count;
+    if count <= numbers.len() / events::WIDE {
+        let end = events::WIDE * count;
         for i in 0..end {
-            next = put_cell(out, next, i, wide(events[i]));
+            next = put_cell(out, next, i, wide(numbers[i]));
         }
     }
     next
@@ -38,34 +38,34 @@ fn put_stopped(out: &mut [u8], at: usize, number: u8, place: usize) -> usize {
     put_number(out, place_at, place as u64)
 }
 
-fn put_walked(out: &mut [u8], at: usize, events: &[u32], w: Walked) -> usize {
+fn put_walked(out: &mut [u8], at: usize, numbers: &[u32], w: Walked) -> usize {
     match w {
-        Walked::Done { count } => put_events(out, at, events, count),
+        Walked::Done { count } => put_events(out, at, numbers, count),
         Walked::Stopped {
             number,
             place,
             count,
         } => {
-            let next = put_events(out, at, events, count);
+            let next = put_events(out, at, numbers, count);
             put_stopped(out, next, number, place)
         }
     }
 }
 
-// With room for so many events, at most 2,048.
+// With room for so many events, at most 1,820.
 pub fn put_walk(out: &mut [u8], at: usize, n: [u32; 24], doc: &[u8]) -> usize {
     let room = n[0] as usize;
-    if 2048 < room {
+    if 1820 < room {
         return put_what(out, at);
     }
-    let mut events = [0u32; 16384];
-    let w = walk_in(doc, &mut events, 8 * room);
-    put_walked(out, at, &events, w)
+    let mut numbers = [0u32; 16384];
+    let w = walk_in(doc, &mut numbers, events::WIDE * room);
+    put_walked(out, at, &numbers, w)
 }
 
-fn walk_in(doc: &[u8], events: &mut [u32], end: usize) -> Walked {
-    if end <= events.len() {
-        return walk::walk(doc, &mut events[..end]);
+fn walk_in(doc: &[u8], numbers: &mut [u32], end: usize) -> Walked {
+    if end <= numbers.len() {
+        return walk::walk(doc, &mut numbers[..end]);
     }
-    walk::walk(doc, events)
+    walk::walk(doc, numbers)
 }

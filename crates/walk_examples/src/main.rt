@@ -1,4 +1,4 @@
-// Runs the worked examples of the walk, a line each: the question, and what the library answers. A question names how many numbers are lent, eight for
+// Runs the worked examples of the walk, a line each: the question, and what the library answers. A question names how many numbers are lent, nine for
 // each event that finds room. An answer is the events' numbers, or a refusal with its place and the events before it.
 use walk::Walked;
 use words::say;
@@ -12,7 +12,7 @@ fn wide(n: u32) -> u64 {
 
 // What stands before number i: a comma begins an event.
 fn say_gap(i: usize) {
-    if i % 8 == 0 {
+    if i % events::WIDE == 0 {
         say(b",");
     }
     say(b" ");
@@ -33,15 +33,15 @@ fn say_cells(lent: &[u32], from: usize, end: usize) {
 }
 
 fn say_first(lent: &[u32], n: usize) {
-    if n <= lent.len() / 8 {
-        say_cells(lent, 0, 8 * n);
+    if n <= lent.len() / events::WIDE {
+        say_cells(lent, 0, events::WIDE * n);
     }
 }
 
 fn say_last(lent: &[u32], n: usize) {
-    if n <= lent.len() / 8 {
+    if n <= lent.len() / events::WIDE {
         if 1 <= n {
-            say_cells(lent, 8 * n - 8, 8 * n);
+            say_cells(lent, events::WIDE * n - events::WIDE, events::WIDE * n);
         }
     }
 }
@@ -100,7 +100,7 @@ fn lend(doc: &[u8], lent: &mut [u32]) {
 
 // Walks a document with room for eight events.
 fn list(doc: &[u8]) {
-    let mut lent = [0u32; 64];
+    let mut lent = [0u32; 72];
     lend(doc, &mut lent);
 }
 
@@ -140,14 +140,14 @@ fn put_nested(doc: &mut [u8]) {
 
 // Seven bytes are an array.
 fn say_nested(len: usize) {
-    say(b"walk with 816 of true inside ");
+    say(b"walk with 918 of true inside ");
     say_number((len / 7) as u64);
     say(b" arrays: ");
 }
 
 // Walks true inside arrays.
 fn nested(doc: &mut [u8]) {
-    let mut lent = [0u32; 816];
+    let mut lent = [0u32; 918];
     put_nested(doc);
     say_nested(doc.len());
     answer(doc, &mut lent);
@@ -164,10 +164,10 @@ fn nested_examples() {
 
 // Room for two events, and for none.
 fn room_examples(doc: &[u8]) {
-    let mut two = [0u32; 16];
+    let mut two = [0u32; 18];
     lend(doc, &mut two);
-    let mut seven = [0u32; 7];
-    lend(doc, &mut seven);
+    let mut eight = [0u32; 8];
+    lend(doc, &mut eight);
     let mut none = [0u32; 0];
     lend(doc, &mut none);
 }
@@ -184,18 +184,18 @@ fn say_kept(at: u64, before: u64, after: u32) {
 
 // A number that was set before a walk, right behind its three events.
 fn kept_after_events(doc: &[u8]) {
-    let mut lent = [0u32; 64];
-    lent[24] = 77;
+    let mut lent = [0u32; 72];
+    lent[27] = 77;
     lend(doc, &mut lent);
-    say_kept(24, 77, lent[24]);
+    say_kept(27, 77, lent[27]);
 }
 
 // And one where the third event would begin, with room for two.
 fn kept_at_refusal(doc: &[u8]) {
-    let mut lent = [0u32; 23];
-    lent[16] = 78;
+    let mut lent = [0u32; 26];
+    lent[18] = 78;
     lend(doc, &mut lent);
-    say_kept(16, 78, lent[16]);
+    say_kept(18, 78, lent[18]);
 }
 
 // An array of true and -2.

@@ -22,7 +22,7 @@ use Rattle.events.specs.Lay.{room}
 use Rattle.paths.specs.Paths.{rootStand, child, viewIn, countIn, here, down, Item, item, under, gather, tree, paths}
 use Rattle.paths.specs.Shown.{Walks}
 use Rattle.paths.proofs.Laid.{room-fits}
-use Rattle.walk_laws.specs.Promise.{IsUtf8, Leads, Readable, AllRead, Everything, UpTo101, eventsOf, written, value-refused, wrong, Halt, Room}
+use Rattle.walk_laws.specs.Promise.{IsUtf8, Leads, Readable, AllRead, Everything, UpTo101, eventsIn, written, value-refused, wrong, Halt, Room}
 use Rattle.walk_laws.proofs.Reach.{reach}
 use Rattle.walk_laws.proofs.Stops.{events-length, stop-room}
 use Rattle.walk_laws.proofs.Theorem.{everything, done-read, events-left, success, listing, refusal, untouched}
@@ -141,7 +141,7 @@ module _ (d : List ℕ) (h : 16777216 < length d) where
       }
 
   pub too-long : (out : List ℕ) (r : Walked) (left : List ℕ) → Walks d out r left → (r ≡ Stopped 1 0 0) × (left ≡ out)
-  unfolding eventsOf long-halt
+  unfolding eventsIn long-halt
   too-long out r left w =
       let e = refusal d out r left w (paths d) (reach d) 1 0 0 .1 (long-halt (room out)) in
       let u = subst (λ (q : Walked). Walks d out q left) e w in
@@ -152,8 +152,8 @@ pub same-length : (d out : List ℕ) (r : Walked) (left : List ℕ) → Walks d 
 same-length d out r left w =
     let (xs, (h, e)) = events-left d out r left w in
     let a : length left ≡ length (written xs out) = ap length e in
-    let b : length (written xs out) ≡ length (eventsOf xs) + length (drop (wide * length xs) out) = length-append (eventsOf xs) (drop (wide * length xs) out) in
-    let c : length (eventsOf xs) ≡ wide * length xs = events-length xs in
+    let b : length (written xs out) ≡ length (eventsIn xs xs) + length (drop (wide * length xs) out) = length-append (eventsIn xs xs) (drop (wide * length xs) out) in
+    let c : length (eventsIn xs xs) ≡ wide * length xs = events-length xs xs in
     let f : length (drop (wide * length xs) out) ≡ length out - wide * length xs = length-drop (wide * length xs) out in
     let g = room-fits out in
     omega arith

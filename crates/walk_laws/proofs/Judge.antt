@@ -26,7 +26,7 @@ use Rattle.events.specs.declared.Spot.{Spot}
 use Rattle.events.specs.Events.{noKey, eventOf}
 use Rattle.events.specs.Text.{textAt, valueText}
 use Rattle.paths.specs.Judged.{Stand, Judged, bad, good, spot, textThen, valueJudged, keyJudged, judged}
-use Rattle.paths.specs.Paths.{viewIn, Below, here, down, Item, lastOf, said}
+use Rattle.paths.specs.Paths.{viewIn, Below, here, down, Item, lastOf, parentIn, said}
 use Rattle.paths.specs.Levels.{entryStand}
 use Rattle.paths.proofs.Whole.{SaidStands, root-stands, elem-stands, entry-child}
 use Rattle.paths.proofs.Scan.{said-deep, said-near}
@@ -35,53 +35,56 @@ use Rattle.walk_laws.proofs.Entry.{texts-inside}
 use Rattle.walk_laws.proofs.Text.{text-test, value-test, value-breaks, breaks-value}
 
 -- ---- a path by its key and its value
-module _ (d : List ℕ) (depth i : ℕ) (s : Stand) where
+module _ (d : List ℕ) (depth i m : ℕ) (s : Stand) where
   abbrev of-key : Said Span → Judged
-  of-key k = keyJudged d depth i s k
+  of-key k = keyJudged d depth i m s k
 
-  judged-no-key : {f : ℕ} → s .key ≡ refuses f → judged d depth i s ≡ bad f (s .keyPlace)
+  judged-no-key : {f : ℕ} → s .key ≡ refuses f → judged d depth i m s ≡ bad f (s .keyPlace)
   judged-no-key e = ap of-key e
 
   module _ {k : Span} (ke : s .key ≡ says k) where
     abbrev at : Spot
-    at = spot depth i (s .place) k (s .from)
+    at = spot depth i m (s .place) k (s .from)
 
-    by-key : {r : Utf8Check} → textAt d k ≡ r → judged d depth i s ≡ textThen r (valueJudged d at (s .value))
+    by-key : {r : Utf8Check} → textAt d k ≡ r → judged d depth i m s ≡ textThen r (valueJudged d at (s .value))
     by-key t = ap of-key ke ∙ ap (λ (c : Utf8Check). textThen c (valueJudged d at (s .value))) t
 
     module _ (t : textAt d k ≡ Valid) where
-      judged-no-value : {f : ℕ} → s .value ≡ refuses f → judged d depth i s ≡ bad f (s .place)
+      judged-no-value : {f : ℕ} → s .value ≡ refuses f → judged d depth i m s ≡ bad f (s .place)
       judged-no-value e = by-key t ∙ ap (valueJudged d at) e
 
-      by-value : {y : Value} {r : Utf8Check} → s .value ≡ says y → valueText d y ≡ r → judged d depth i s ≡ textThen r (good (eventOf at y) y)
+      by-value : {y : Value} {r : Utf8Check} → s .value ≡ says y → valueText d y ≡ r → judged d depth i m s ≡ textThen r (good (eventOf at y) y)
       by-value {y} e u = by-key t ∙ ap (valueJudged d at) e ∙ ap (λ (c : Utf8Check). textThen c (good (eventOf at y) y)) u
 
--- ---- what is said
-module _ (d : List ℕ) (x : Item) where
+-- ---- what is said of a path among all
+module _ (d : List ℕ) (all : List Item) (x : Item) where
   abbrev long : ℕ
   long = length (x .path)
 
   abbrev last : ℕ
   last = lastOf (x .path)
 
-  pub good-said : Good d x → said d x ≡ good (eventAt x) (valueIn (x .stand .value))
+  abbrev parent : ℕ
+  parent = parentIn all x
+
+  pub good-said : Good d x → said d all x ≡ good (eventAt all x) (valueIn (x .stand .value))
   good-said g =
       let r = g .readable in
       let e : says (r .key) ≡ x .stand .key = sym (r .keySaid) in
       let f : says (r .value) ≡ x .stand .value = sym (r .valueSaid) in
-      said-near d x (g .near)
-      ∙ by-value d long last (x .stand) (r .keySaid) (text-test .valid d (r .key) .1 (r .keyUtf8)) (r .valueSaid) (value-test d (r .value) .1 (r .valueUtf8))
-      ∙ ap (λ (k : Said Span). good (eventOf (spot long last (x .stand .place) (keyIn k) (x .stand .from)) (r .value)) (r .value)) e
+      said-near d all x (g .near)
+      ∙ by-value d long last parent (x .stand) (r .keySaid) (text-test .valid d (r .key) .1 (r .keyUtf8)) (r .valueSaid) (value-test d (r .value) .1 (r .valueUtf8))
+      ∙ ap (λ (k : Said Span). good (eventOf (spot long last parent (x .stand .place) (keyIn k) (x .stand .from)) (r .value)) (r .value)) e
       ∙ ap (λ (y : Said Value).
-      good (eventOf (spot long last (x .stand .place) (keyIn (x .stand .key)) (x .stand .from)) (valueIn y)) (valueIn y)) f
+      good (eventOf (spot long last parent (x .stand .place) (keyIn (x .stand .key)) (x .stand .from)) (valueIn y)) (valueIn y)) f
 
-  pub wrong-said : {f p : ℕ} → Wrong d x f p → said d x ≡ bad f p
-  wrong-said (deep h) = said-deep d x h
-  wrong-said (key-refused h e) = said-near d x h ∙ judged-no-key d long last (x .stand) e
-  wrong-said (key-octets {k = k} p h e b) = said-near d x h ∙ by-key d long last (x .stand) e (text-test .breaks d k p (b .inside) .1 b)
-  wrong-said (value-refused {k = k} h e u q) = said-near d x h ∙ judged-no-value d long last (x .stand) e (text-test .valid d k .1 u) q
+  pub wrong-said : {f p : ℕ} → Wrong d x f p → said d all x ≡ bad f p
+  wrong-said (deep h) = said-deep d all x h
+  wrong-said (key-refused h e) = said-near d all x h ∙ judged-no-key d long last parent (x .stand) e
+  wrong-said (key-octets {k = k} p h e b) = said-near d all x h ∙ by-key d long last parent (x .stand) e (text-test .breaks d k p (b .inside) .1 b)
+  wrong-said (value-refused {k = k} h e u q) = said-near d all x h ∙ judged-no-value d long last parent (x .stand) e (text-test .valid d k .1 u) q
   wrong-said (value-octets {k = k} {y = y} p h e u q b) =
-      said-near d x h ∙ by-value d long last (x .stand) e (text-test .valid d k .1 u) q (breaks-value d y p b)
+      said-near d all x h ∙ by-value d long last parent (x .stand) e (text-test .valid d k .1 u) q (breaks-value d y p b)
 
 -- ---- every path that leads anywhere is good or wrong
 pub record Told (s : Stand) : Type 0 where

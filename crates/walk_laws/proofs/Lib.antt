@@ -6,6 +6,7 @@ pub mod Breaks
 pub mod Text
 pub mod Judge
 pub mod Stops
+pub mod Climb
 pub mod Theorem
 pub mod Corollaries
 pub mod Numbers

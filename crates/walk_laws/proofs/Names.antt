@@ -39,12 +39,12 @@ Row : List ℕ → List Item → Type 0
 Row π [] = Unit {0}
 Row π (x ∷ xs) = After π (x .path) × Row (x .path) xs
 
-row-named : (π : List ℕ) (xs : List Item) → Row π xs → namesAfter π (map eventAt xs) ≡ map (λ x. x .path) xs
+row-named : (all : List Item) (π : List ℕ) (xs : List Item) → Row π xs → namesAfter π (map (eventAt all) xs) ≡ map (λ x. x .path) xs
 unfolding Row namesAfter
-row-named π [] r = refl
-row-named π (x ∷ xs) r =
-    ap (λ (ρ : List ℕ). ρ ∷ namesAfter ρ (map eventAt xs)) (after-named (r .0))
-    ∙ ap (λ (ρs : List (List ℕ)). x .path ∷ ρs) (row-named (x .path) xs (r .1))
+row-named all π [] r = refl
+row-named all π (x ∷ xs) r =
+    ap (λ (ρ : List ℕ). ρ ∷ namesAfter ρ (map (eventAt all) xs)) (after-named (r .0))
+    ∙ ap (λ (ρs : List (List ℕ)). x .path ∷ ρs) (row-named all (x .path) xs (r .1))
 
 row-append : (π : List ℕ) (xs ys : List Item) → Row π xs → ((ρ : List ℕ) → Row ρ ys) → Row π (xs ++ ys)
 unfolding Row
@@ -81,6 +81,6 @@ module _ (d : List ℕ) where
         (λ i π. tree-under i l (child d (viewIn (s .value)) i) (tree-row l (child d (viewIn (s .value)) i)) π) (countIn (s .value)) 0 [],
   )
 
-pub naming : (d : List ℕ) → namesAfter [] (map eventAt (paths d)) ≡ map (λ x. x .path) (paths d)
+pub naming : (d : List ℕ) → namesAfter [] (map (eventAt (paths d)) (paths d)) ≡ map (λ x. x .path) (paths d)
 unfolding paths
-naming d = row-named [] (paths d) (tree-row d 101 (rootStand d))
+naming d = row-named (paths d) [] (paths d) (tree-row d 101 (rootStand d))

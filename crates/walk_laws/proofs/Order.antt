@@ -12,7 +12,7 @@ use Rattle.paths.specs.Paths.{Before, prefix, lower, inside, Item}
 use Rattle.walk_laws.specs.Promise.{Ascending, StrictOrder, OneList}
 
 -- ---- a strict and total order
-differ : {π ρ : List ℕ} → Before π ρ → π ≡ ρ → ⊥
+pub differ : {π ρ : List ℕ} → Before π ρ → π ≡ ρ → ⊥
 differ prefix e = let z : _≡_ {A = ℕ} 0 1 = cc in omega arith
 differ (lower {i = i} {j = j} h) e = let z : i ≡ j = cc in omega arith
 differ (inside {π = π} {ρ = ρ} b) e = let z : π ≡ ρ = cc in differ b z

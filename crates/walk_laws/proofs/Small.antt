@@ -60,7 +60,7 @@ room-small out = go (ltb 4294967295 (length out / wide)) refl
 module _ (d out : List ℕ) where
   told-small : counted (ends (shown d (room out)) 0 .values) ≤ 4294967295
   unfolding shown
-  told-small = omega (arith, within-room (scan d (paths d)) (room out) 0, room-small out)
+  told-small = omega (arith, within-room (scan d (paths d) (paths d)) (room out) 0, room-small out)
 
   pub done-small : (n : ℕ) (left : List ℕ) → Walks d out (Done n) left → n ≤ 4294967295
   done-small n left w = subst (λ (a : Answer). counted (a .values) ≤ 4294967295) (sym (w .answer)) told-small

@@ -2,27 +2,29 @@
 -- Assumes nothing.
 use mathlib.Core.Path.{_≡_, refl, sym, ap, _∙_, subst}
 use mathlib.Core.Logic.{_⊎_, inl, inr}
-use mathlib.Core.List.{List, [], _∷_, map, List·Memᴰ}
-use Prim.Native.Nat.{ℕ, zero, suc, _≤_}
+use mathlib.Core.List.{List, [], _∷_, _++_, map, append-nil, List·Memᴰ}
+use Prim.Native.Nat.{ℕ, zero, suc, _*_, _≤_}
 use native.Mathlib.Omega.{arith}
 use native.Mathlib.Decide.{decLe}
-use lib.ListN.{length}
+use lib.ListN.{length, drop}
 use Rattle.events.specs.declared.Walked.{Walked}
 use Rattle.events.specs.declared.Walked.the-variants.{Done, Stopped}
+use Rattle.events.specs.Events.{wide}
 use Rattle.paths.specs.Judged.{Stand}
 use Rattle.events.specs.Listing.{Listing as Laying, end, fault}
 use Rattle.events.specs.Lay.{room}
 use Rattle.paths.specs.Paths.{Below, here, down, Item, item, paths}
 use Rattle.paths.specs.Shown.{flat, over, shown, Walks}
 use Rattle.paths.proofs.Laid.{walked, walked-told, told-same}
-use Rattle.walk_laws.specs.Promise.{Leads, AllRead, Everything, UpTo101, eventAt, namesAfter, written, Good, Halt}
-use Rattle.walk_laws.specs.Promise.{Success, Listing, Refusal, Untouched, Paths, OneAnswer, WalkTheorem}
+use Rattle.walk_laws.specs.Promise.{Leads, AllRead, Everything, UpTo101, eventAt, eventsIn, namesAfter, written, Climbs, Good, Halt}
+use Rattle.walk_laws.specs.Promise.{Success, Listing, Refusal, Untouched, every, before, Climbing, Paths, OneAnswer, WalkTheorem}
 use Rattle.walk_laws.proofs.Order.{strict-order, one-list}
 use Rattle.walk_laws.proofs.Reach.{reach, one-place}
 use Rattle.walk_laws.proofs.Names.{naming}
 use Rattle.walk_laws.proofs.Entry.{texts-inside}
 use Rattle.walk_laws.proofs.Text.{text-test}
 use Rattle.walk_laws.proofs.Judge.{leads-answered}
+use Rattle.walk_laws.proofs.Climb.{prefix-events, climbs-up}
 use Rattle.walk_laws.proofs.Stops.{chain, chain-ends, chain-over, Fine, fine-shown, stop-room, halt-shown, Halted, decided}
 
 pub one-answer : OneAnswer
@@ -86,24 +88,27 @@ lists d = ((paths d, reach d), λ a. (paths d, everything d a))
 
 -- ---- what the promise says in each case
 module _ (d out : List ℕ) (r : Walked) (left : List ℕ) (w : Walks d out r left) where
-  by-shown : (xs : List Item) (l : Laying) → shown d (room out) ≡ chain xs l → (r ≡ walked l (length xs)) × (flat l ≡ [] → left ≡ written xs out)
+  by-shown : (xs : List Item) (l : Laying) → shown d (room out) ≡ chain (paths d) xs l →
+      (r ≡ walked l (length xs)) × (flat l ≡ [] → left ≡ eventsIn (paths d) xs ++ drop (wide * length xs) out)
   by-shown xs l e = (
     told-same r (walked (shown d (room out)) 0) (w .answer ∙ sym (walked-told (shown d (room out)) 0))
         ∙ ap (λ (y : Laying). walked y 0) e
-        ∙ chain-ends xs l 0
+        ∙ chain-ends (paths d) xs l 0
         ∙ ap (walked l) (omega arith),
-    λ f. w .leaves ∙ ap (λ (y : Laying). over y out) e ∙ chain-over xs l out f,
+    λ f. w .leaves ∙ ap (λ (y : Laying). over y out) e ∙ chain-over (paths d) xs l out f,
   )
 
   fine-done : Fine d (paths d) (room out) → (r ≡ Done (length (paths d))) × (left ≡ written (paths d) out)
   unfolding shown walked flat
-  fine-done f = let s = by-shown (paths d) end (fine-shown d (paths d) (room out) f) in (s .0, s .1 refl)
+  fine-done f = let s = by-shown (paths d) end (fine-shown d (paths d) (paths d) (room out) f) in (s .0, s .1 refl)
 
   halt-stopped : (f p n : ℕ) (h : Halt d (paths d) (room out) f p n) → (r ≡ Stopped f p n) × (left ≡ written (h .before) out)
   unfolding shown walked flat
   halt-stopped f p n h =
-      let s = by-shown (h .before) (fault f p) (halt-shown d (paths d) (room out) f p n h) in
-      (s .0 ∙ ap (Stopped f p) (sym (h .count)), s .1 refl)
+      let s = by-shown (h .before) (fault f p) (halt-shown d (paths d) (paths d) (room out) f p n h) in (
+        s .0 ∙ ap (Stopped f p) (sym (h .count)),
+        s .1 refl ∙ ap (λ (ns : List ℕ). ns ++ drop (wide * length (h .before)) out) (prefix-events d (h .before) (h .at ∷ h .after) (h .split)),
+      )
 
   -- ---- and so, by what it answered
   apart : {A : Type 0} {n f p m : ℕ} → r ≡ Done n → r ≡ Stopped f p m → A
@@ -166,7 +171,7 @@ listing d out n left w xs v =
     record {
       count = q ∙ ap length e;
       leaves = s .1 ∙ ap (λ (ys : List Item). written ys out) e;
-      names = subst (λ (ys : List Item). namesAfter [] (map eventAt ys) ≡ map (λ x. x .path) ys) e (naming d);
+      names = subst (λ (ys : List Item). namesAfter [] (map (eventAt ys) ys) ≡ map (λ x. x .path) ys) e (naming d);
     }
 
 -- any list of the paths of at most 101 positions is the one
@@ -179,9 +184,9 @@ refusal d out r left w xs v f p n = (
   λ h. halt-stopped d out r left w f p n (subst (λ (ys : List Item). Halt d ys (room out) f p n) (is-paths d xs v) h) .0,
 )
 
-pub untouched : Untouched
-untouched d out f p n left w xs v h =
-    let k : Halt d (paths d) (room out) f p n =
+-- a path at which it stops in any such list is one of the document's
+abbrev paths-halt : (d out : List ℕ) (xs : List Item) → UpTo101 d xs → {f p n : ℕ} (h : Halt d xs (room out) f p n) → Halt d (paths d) (room out) f p n
+paths-halt d out xs v h =
     record {
       before = h .before;
       at = h .at;
@@ -190,8 +195,20 @@ untouched d out f p n left w xs v h =
       count = h .count;
       good = h .good;
       stops = h .stops;
-    } in
-    halt-stopped d out (Stopped f p n) left w f p n k .1
+    }
+
+pub untouched : Untouched
+untouched d out f p n left w xs v h = halt-stopped d out (Stopped f p n) left w f p n (paths-halt d out xs v h) .1
+
+pub climbing : Climbing
+climbing d out r left w xs (every {n = n} {xs = ys} v) k h =
+    let a = done-read d out (Done n) left w n refl in
+    let e : paths d ≡ ys ++ [] = one-list d (λ π. Unit {0}) (paths d) ys (everything d a) v ∙ sym (append-nil ys) in
+    subst (λ (l : List ℕ). Climbs ys l k) (sym (listing d out n left w ys v .leaves)) (climbs-up d ys [] e (drop (wide * length ys) out) k h)
+climbing d out r left w xs (before {f = f} {p = p} {n = n} {xs = ys} v s) k h =
+    let e : paths d ≡ s .before ++ s .at ∷ s .after = paths-halt d out ys v s .split in
+    subst (λ (l : List ℕ). Climbs (s .before) l k) (sym (untouched d out f p n left w ys v s))
+    (climbs-up d (s .before) (s .at ∷ s .after) e (drop (wide * length (s .before)) out) k h)
 
 pub walk-theorem : WalkTheorem
 walk-theorem =
@@ -200,6 +217,7 @@ walk-theorem =
       listing = listing;
       refusal = refusal;
       untouched = untouched;
+      climbing = climbing;
       promised = reach;
       lists = lists;
       one-list = one-list;

@@ -2,13 +2,13 @@
 -- and what is `left` in the lent list. Its meaning is said here without the order of any computing: which paths there are, which can be read, when a walk
 -- of them succeeds and what it then leaves, and where it stops otherwise. The statements stand at the end; proofs/Theorem.antt proves them together.
 -- Assumes nothing.
-use Prim.Native.Nat.{ℕ, _+_, _*_, _-_, _≤_, _<_}
+use Prim.Native.Nat.{ℕ, zero, suc, _+_, _*_, _-_, _≤_, _<_}
 use mathlib.Core.Path.{_≡_}
 use mathlib.Core.Bool.{cond}
 use mathlib.Core.Logic.{_↔_, _⊎_}
 use mathlib.Core.List.{List, [], _∷_, _++_, map, List·Memᴰ}
 use lib.Dec.{eqb}
-use lib.ListN.{length, take, drop}
+use lib.ListN.{length, getD, take, drop}
 use lib.Seq.{slice}
 use Rattle.rfc3629.specs.Grammar.{Utf8, Begins, Unfinished}
 use Rattle.utf8.specs.declared.Utf8Check.the-variants.{Valid, Bad}
@@ -27,7 +27,7 @@ use Rattle.events.specs.Events.{noKey, eventOf, numbers, wide}
 use Rattle.events.specs.Text.{bytes, textAt}
 use Rattle.paths.specs.Judged.{Stand, spot}
 use Rattle.events.specs.Lay.{room}
-use Rattle.paths.specs.Paths.{rootStand, Below, Before, Item, item, lastOf, paths}
+use Rattle.paths.specs.Paths.{rootStand, Below, Before, Item, item, paths, lastOf, parentIn}
 use Rattle.paths.specs.Shown.{Walks}
 
 -- ---- keys and strings are UTF-8: the part lies in the document, and its bytes are in RFC 3629's grammar
@@ -119,15 +119,16 @@ valueIn (says x) = x
 valueIn nothing = value.Scalar type.Literal scalar.Null
 valueIn (refuses n) = value.Scalar type.Literal scalar.Null
 
--- the event of a path: its length, its last position, its key, its value
-abbrev pub eventAt : Item → Event
-eventAt x =
-    eventOf (spot (length (x .path)) (lastOf (x .path)) (x .stand .place) (keyIn (x .stand .key)) (x .stand .from))
+-- the event of a path among those that are listed: its length, its last position, its key, its value, and the index of its container
+abbrev pub eventAt : List Item → Item → Event
+eventAt xs x =
+    eventOf (spot (length (x .path)) (lastOf (x .path)) (parentIn xs x) (x .stand .place) (keyIn (x .stand .key)) (x .stand .from))
     (valueIn (x .stand .value))
 
-unfoldable pub eventsOf : List Item → List ℕ
-eventsOf [] = []
-eventsOf (x ∷ xs) = numbers (eventAt x) ++ eventsOf xs
+-- the numbers of some of them
+unfoldable pub eventsIn : List Item → List Item → List ℕ
+eventsIn all [] = []
+eventsIn all (x ∷ xs) = numbers (eventAt all x) ++ eventsIn all xs
 
 -- how events in order name paths, by depth and position: a path has its depth's positions, the last is its own, and those before it are the first of the
 -- path before it
@@ -140,7 +141,38 @@ namesAfter π (e ∷ es) = nameAfter π (e .depth) (e .position) ∷ namesAfter 
 
 -- a lent list with the events of paths at its front and the rest as it was
 abbrev pub written : List Item → List ℕ → List ℕ
-written xs out = eventsOf xs ++ drop (wide * length xs) out
+written xs out = eventsIn xs xs ++ drop (wide * length xs) out
+
+-- ---- climbing (document 02, W6), by what stands in the list that is left
+-- what event k shows as its depth, its position and the index of its container: the second, the third and the ninth number
+abbrev pub depthIn : List ℕ → ℕ → ℕ
+depthIn left k = getD left (wide * k + 1) 0
+
+abbrev pub positionIn : List ℕ → ℕ → ℕ
+positionIn left k = getD left (wide * k + 2) 0
+
+abbrev pub climb : List ℕ → ℕ → ℕ
+climb left k = getD left (wide * k + 8) 0
+
+-- the event to which so many climbs lead
+unfoldable pub climbs : List ℕ → ℕ → ℕ → ℕ
+climbs left zero k = k
+climbs left (suc t) k = climbs left t (climb left k)
+
+-- the path of event k
+unfoldable pub pathAt : List Item → ℕ → List ℕ
+pathAt [] k = []
+pathAt (x ∷ xs) zero = x .path
+pathAt (x ∷ xs) (suc k) = pathAt xs k
+
+-- from event k, whose depth is its path's length, one climbs to an earlier event, whose path is that of k without its last position, k's own; and after as
+-- many climbs as the depth, and not sooner, one is at the root, which stands first and whose own number is 0
+pub record Climbs (xs : List Item) (left : List ℕ) (k : ℕ) : Type 0 where
+  pub depth : depthIn left k ≡ length (pathAt xs k)
+  pub up : 1 ≤ depthIn left k → (climb left k < k) × (pathAt xs k ≡ pathAt xs (climb left k) ++ positionIn left k ∷ [])
+  pub ends : climbs left (depthIn left k) k ≡ 0
+  pub sooner : (t : ℕ) → t < depthIn left k → climbs left t k ≡ 0 → ⊥
+  pub root : depthIn left k ≡ 0 → climb left k ≡ 0
 
 -- ---- what is wrong with a path, by its number and its place: 11, the key 5, the key 9, the value, a string 9; each where those before it are not. A text's
 -- place is where it breaks, any other that of an entry
@@ -187,7 +219,7 @@ Success = (d out : List ℕ) (r : Walked) (left : List ℕ) → Walks d out r le
 pub record Listed (xs : List Item) (out : List ℕ) (n : ℕ) (left : List ℕ) : Type 0 where
   pub count : n ≡ length xs
   pub leaves : left ≡ written xs out
-  pub names : namesAfter [] (map eventAt xs) ≡ map (λ x. x .path) xs
+  pub names : namesAfter [] (map (eventAt xs) xs) ≡ map (λ x. x .path) xs
 
 abbrev pub Listing : Type 0
 Listing = (d out : List ℕ) (n : ℕ) (left : List ℕ) → Walks d out (Done n) left → (xs : List Item) → Everything d xs → Listed xs out n left
@@ -201,6 +233,16 @@ Refusal = (d out : List ℕ) (r : Walked) (left : List ℕ) → Walks d out r le
 abbrev pub Untouched : Type 0
 Untouched = (d out : List ℕ) (f p n : ℕ) (left : List ℕ) → Walks d out (Stopped f p n) left → (xs : List Item) → UpTo101 d xs →
     (h : Halt d xs (room out) f p n) → left ≡ written (h .before) out
+
+-- the paths whose events stand: all of a walk that succeeds, or those before the path at which it is refused
+pub data Standing (d out : List ℕ) : Walked → List Item → Type 0 where
+  every : {n : ℕ} {xs : List Item} → Everything d xs → Standing d out (Done n) xs
+  before : {f p n : ℕ} {xs : List Item} → UpTo101 d xs → (h : Halt d xs (room out) f p n) → Standing d out (Stopped f p n) (h .before)
+
+-- from each of these events one climbs to the root
+abbrev pub Climbing : Type 0
+Climbing = (d out : List ℕ) (r : Walked) (left : List ℕ) → Walks d out r left → (xs : List Item) → Standing d out r xs → (k : ℕ) → k < length xs →
+    Climbs xs left k
 
 -- the paths in the definition of the promise are these paths
 abbrev pub Promised : Type 0
@@ -247,6 +289,7 @@ pub record WalkTheorem : Type 1 where
   pub listing : Listing
   pub refusal : Refusal
   pub untouched : Untouched
+  pub climbing : Climbing
   pub promised : Promised
   pub lists : Paths
   pub one-list : OneList

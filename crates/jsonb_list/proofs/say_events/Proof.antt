@@ -1,4 +1,4 @@
--- The index is below eight times n, and n events were tested to be there.
+-- The index is below the numbers of n events, and so many were tested to be there.
 -- Assumes nothing.
 use Prim.Native.Nat.{_≤_, _-_}
 use borrow.Author.Needs.{needs}

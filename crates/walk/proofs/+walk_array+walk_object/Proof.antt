@@ -11,9 +11,8 @@ use borrow.Fn.Kinds.{In}
 use borrow.Fn.PlainCycle.{Measures, is, falls, and}
 use Rattle.entry.specs.Entries.{entryRead}
 use Rattle.entry.proofs.value_place.Reads as value-place-reads
-use Rattle.walk.specs.Tested.{Last, Kept}
+use Rattle.walk.specs.Tested.{Last}
 use Rattle.sight.proofs.Laws.{entry-fit}
-use Rattle.events.specs.declared.Walked.{Walked}
 use Rattle.walk.proofs.list_element.Reads as list-element-reads
 use Rattle.walk.proofs.list_member.Reads as list-member-reads
 use Rattle.walk.proofs.walk_array.Reads as walk-array
@@ -26,6 +25,7 @@ use Rattle.walk.proofs.+walk_array+walk_object.{statement}
 use Rattle.walk.proofs.+walk_array+walk_object.Tie.{close}
 use Rattle.walk.proofs.Node.{same, kept, done-last, array-so, object-so, nothing-so, container-below, nothing-below}
 use Rattle.paths.proofs.Laid.{room-same}
+use Rattle.walk.proofs.Cases.{last-small}
 use Rattle.walk.proofs.Going.{Going, Came, start, over, deep, stopped, came, stopped-below, on}
 
 abbrev μ-walk-array : Measures 2 walk-array-kinds.ps ℕ
@@ -60,17 +60,17 @@ array-claims t = (
 )
 
 abbrev walk-array-Inv-loop : walk-array-lts.InvT-loop
-walk-array-Inv-loop doc out₀ from view levels room n₀ i₀ count out n i = Going levels doc view out₀ from out n i × Last doc out n
+walk-array-Inv-loop doc out₀ from view levels room parent n₀ i₀ count out n i = Going levels doc view out₀ from out n i × Last doc out n
 
 abbrev walk-array-μ-loop : walk-array-lts.MeasureT-loop
-walk-array-μ-loop doc out₀ from view levels room n₀ i₀ count out n i = count - i
+walk-array-μ-loop doc out₀ from view levels room parent n₀ i₀ count out n i = count - i
 
 -- where the arms meet: what an entry and all below it answered
 array-came : (t : ℕ)
     (c : walk-array-lts.At-match2-came (array-claims t) (walk-array-at t) walk-array.Post walk-array-Inv-loop walk-array-μ-loop) →
     let l = c .before .before .before .before .before .before .before .before .before .before .loop in
     let a = c .before .before .before .before .before .before .before .before .before .before .before .before .before .args in
-    Came (a .levels) (a .doc .now) (a .view) (l .out) (l .n) (l .i) (c .match2 .w) (c .match2 .out)
+    Came (a .levels) (a .doc .now) (a .view) (a .from - 1) (l .out) (l .n) (l .i) (c .match2 .w) (c .match2 .out)
 array-came t c =
     let l = c .before .before .before .before .before .before .before .before .before .before .loop in
     let a = c .before .before .before .before .before .before .before .before .before .before .before .before .before .args in
@@ -80,10 +80,10 @@ array-came t c =
     let last = done-last (a .doc .now) (c .before .before .own .given .1) (listed .last) in
     came (l .inv .0) (c .before .before .before .before .before .before .before .before .before .loop-test .taken) (c .before .before .before .before .before .before .before .before .if1 .left) (c .before .before .before .before .before .before .before .before .before .before .before .before .before .pre .1 .0 .0) refl (listed .listed) (c .before .before .own .given .1) (c .before .before .before .before .before .before .list-element .kept .1 .0)
     (⊎-elim
-    (λ w. (container-below _ _ _ _ _ (array-so r leads (w .1 .given .1) .0) (w .4 .ensures .0) ∙ same (w .8) (w .7), (ap length (w .7) ∙ w .4 .kept .1 .0, kept (a .doc .now) (w .8) (w .7) (w .4 .ensures .1))))
+    (λ w. (container-below _ _ _ _ _ _ (array-so r leads (w .1 .given .1) .0) (w .4 .ensures .0) ∙ same (w .8) (w .7), (ap length (w .7) ∙ w .4 .kept .1 .0, kept (a .doc .now) (w .8) (w .7) (w .4 .ensures .1))))
     (⊎-elim
-    (λ w. (container-below _ _ _ _ _ (object-so r leads (w .1 .given .1) .0) (w .4 .ensures .0) ∙ same (w .8) (w .7), (ap length (w .7) ∙ w .4 .kept .1 .0, kept (a .doc .now) (w .8) (w .7) (w .4 .ensures .1))))
-    (λ w. (nothing-below _ _ _ _ _ (nothing-so r leads (w .1 .given .1) _ _) ∙ same (w .3) (w .2), (ap length (w .2), kept (a .doc .now) (w .3) (w .2) last))))
+    (λ w. (container-below _ _ _ _ _ _ (object-so r leads (w .1 .given .1) .0) (w .4 .ensures .0) ∙ same (w .8) (w .7), (ap length (w .7) ∙ w .4 .kept .1 .0, kept (a .doc .now) (w .8) (w .7) (w .4 .ensures .1))))
+    (λ w. (nothing-below _ _ _ _ _ _ (nothing-so r leads (w .1 .given .1) _ _ _) ∙ same (w .3) (w .2), (ap length (w .2), kept (a .doc .now) (w .3) (w .2) last))))
     (c .match2 .came))
 
 -- ---- the walker of objects
@@ -100,17 +100,17 @@ object-claims t = (
 )
 
 abbrev walk-object-Inv-loop : walk-object-lts.InvT-loop
-walk-object-Inv-loop doc out₀ from view levels room n₀ i₀ count out n i = Going levels doc view out₀ from out n i × Last doc out n
+walk-object-Inv-loop doc out₀ from view levels room parent n₀ i₀ count out n i = Going levels doc view out₀ from out n i × Last doc out n
 
 abbrev walk-object-μ-loop : walk-object-lts.MeasureT-loop
-walk-object-μ-loop doc out₀ from view levels room n₀ i₀ count out n i = count - i
+walk-object-μ-loop doc out₀ from view levels room parent n₀ i₀ count out n i = count - i
 
 -- where the arms meet: what an entry and all below it answered
 object-came : (t : ℕ)
     (c : walk-object-lts.At-match2-came (object-claims t) (walk-object-at t) walk-object.Post walk-object-Inv-loop walk-object-μ-loop) →
     let l = c .before .before .before .before .before .before .before .before .before .before .loop in
     let a = c .before .before .before .before .before .before .before .before .before .before .before .before .before .args in
-    Came (a .levels) (a .doc .now) (a .view) (l .out) (l .n) (l .i) (c .match2 .w) (c .match2 .out)
+    Came (a .levels) (a .doc .now) (a .view) (a .from - 1) (l .out) (l .n) (l .i) (c .match2 .w) (c .match2 .out)
 object-came t c =
     let l = c .before .before .before .before .before .before .before .before .before .before .loop in
     let a = c .before .before .before .before .before .before .before .before .before .before .before .before .before .args in
@@ -120,17 +120,19 @@ object-came t c =
     let last = done-last (a .doc .now) (c .before .before .own .given .1) (listed .last) in
     came (l .inv .0) (c .before .before .before .before .before .before .before .before .before .loop-test .taken) (c .before .before .before .before .before .before .before .before .if1 .left) (c .before .before .before .before .before .before .before .before .before .before .before .before .before .pre .1 .0 .0) refl (listed .listed) (c .before .before .own .given .1) (c .before .before .before .before .before .before .list-member .kept .1 .0)
     (⊎-elim
-    (λ w. (container-below _ _ _ _ _ (array-so r leads (w .1 .given .1) .0) (w .4 .ensures .0) ∙ same (w .8) (w .7), (ap length (w .7) ∙ w .4 .kept .1 .0, kept (a .doc .now) (w .8) (w .7) (w .4 .ensures .1))))
+    (λ w. (container-below _ _ _ _ _ _ (array-so r leads (w .1 .given .1) .0) (w .4 .ensures .0) ∙ same (w .8) (w .7), (ap length (w .7) ∙ w .4 .kept .1 .0, kept (a .doc .now) (w .8) (w .7) (w .4 .ensures .1))))
     (⊎-elim
-    (λ w. (container-below _ _ _ _ _ (object-so r leads (w .1 .given .1) .0) (w .4 .ensures .0) ∙ same (w .8) (w .7), (ap length (w .7) ∙ w .4 .kept .1 .0, kept (a .doc .now) (w .8) (w .7) (w .4 .ensures .1))))
-    (λ w. (nothing-below _ _ _ _ _ (nothing-so r leads (w .1 .given .1) _ _) ∙ same (w .3) (w .2), (ap length (w .2), kept (a .doc .now) (w .3) (w .2) last))))
+    (λ w. (container-below _ _ _ _ _ _ (object-so r leads (w .1 .given .1) .0) (w .4 .ensures .0) ∙ same (w .8) (w .7), (ap length (w .7) ∙ w .4 .kept .1 .0, kept (a .doc .now) (w .8) (w .7) (w .4 .ensures .1))))
+    (λ w. (nothing-below _ _ _ _ _ _ (nothing-so r leads (w .1 .given .1) _ _ _) ∙ same (w .3) (w .2), (ap length (w .2), kept (a .doc .now) (w .3) (w .2) last))))
     (c .match2 .came))
 
 pub +walk-array+walk-object-spec : {M : Type 1} → statement M
 +walk-array+walk-object-spec =
     close μ-walk-array μ-walk-object
     (λ t. walk-array-lts.spec (array-claims t) (walk-array-at t) walk-array.Post walk-array-Inv-loop walk-array-μ-loop
-    (λ c. (start, c .before .before .pre .1 .1 .1 .0))
+    (λ c. c .before .before .pre .1 .1 .1 .0 .some)
+    (λ c. omega (arith, last-small (c .before .before .pre .1 .1 .1 .0)))
+    (λ c. (start (c .before .before .pre .1 .1 .1 .0 .some), c .before .before .pre .1 .1 .1 .0))
     (λ c κs. search needs)
     (λ c. c .before .before .before .loop .inv .0 .same)
     (λ c. (deep (c .before .before .before .loop .inv .0) (c .before .before .loop-test .taken) (c .before .if1 .taken) (c .value-place .ensures .0), tt))
@@ -159,7 +161,9 @@ pub +walk-array+walk-object-spec : {M : Type 1} → statement M
     (λ c. c .before .loop .inv .0 .same)
     (λ c. (over (c .before .loop .inv .0) (c .loop-test .left), c .before .loop .inv .1)))
     (λ t. walk-object-lts.spec (object-claims t) (walk-object-at t) walk-object.Post walk-object-Inv-loop walk-object-μ-loop
-    (λ c. (start, c .before .before .pre .1 .1 .1 .0))
+    (λ c. c .before .before .pre .1 .1 .1 .0 .some)
+    (λ c. omega (arith, last-small (c .before .before .pre .1 .1 .1 .0)))
+    (λ c. (start (c .before .before .pre .1 .1 .1 .0 .some), c .before .before .pre .1 .1 .1 .0))
     (λ c κs. search needs)
     (λ c. c .before .before .before .loop .inv .0 .same)
     (λ c. (deep (c .before .before .before .loop .inv .0) (c .before .before .loop-test .taken) (c .before .if1 .taken) (c .value-place .ensures .0), tt))

@@ -1,6 +1,6 @@
 -- A key with the last event's start and length is the key that was tested; any other is tested.
 -- Assumes nothing.
-use Rattle.events.specs.Events.{span}
+use Rattle.events.specs.Events.{span, wide}
 use lib.ListN.{getD}
 use Prim.Native.Nat.{_+_, _*_, _-_}
 use denote.Ref.{now}
@@ -40,7 +40,7 @@ shared-slice-read-if2 c = search needs
 returns : tie.Need-returns
 returns c =
     let a = c .before .before .before .before .before .before .before .before .args in
-    let at = 8 * a .n - 8 in
+    let at = wide * a .n - wide in
     let o = now (a .out) in
     same-text (now (a .doc)) (span (getD o (at + 3) 0) (getD o (at + 4) 0)) (c .before .before .before .before .before .before .before .before .pre .key) (a .key) (sym (c .before .before .before .if1 .taken)) (sym (c .if2 .taken))
 

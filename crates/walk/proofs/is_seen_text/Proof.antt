@@ -1,6 +1,6 @@
 -- Strings alone are tested, and not one that the last event has.
 -- Assumes nothing.
-use Rattle.events.specs.Events.{span}
+use Rattle.events.specs.Events.{span, wide}
 use lib.ListN.{getD}
 use Prim.Native.Nat.{_+_, _*_, _-_}
 use denote.Ref.{now}
@@ -49,7 +49,7 @@ shared-slice-read-if4 c = search needs
 returns-2 : tie.Need-returns-2
 returns-2 c =
     let a = c .before .before .before .before .before .before .before .before .before .before .before .before .before .args in
-    let at = 8 * a .n - 8 in
+    let at = wide * a .n - wide in
     let o = now (a .out) in
     seen-string (now (a .doc)) (a .x) (c .before .before .before .before .before .before .before .before .before .if1 .left)
     (same-text (now (a .doc)) (span (getD o (at + 5) 0) (getD o (at + 6) 0)) (c .before .before .before .before .before .before .before .before .before .before .before .before .before .pre .text (c .if4 .taken)) (a .x .part) (sym (c .before .before .before .before .before .if2 .taken)) (sym (c .before .before .if3 .taken)))

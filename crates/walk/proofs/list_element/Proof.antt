@@ -47,7 +47,7 @@ returns c =
     let d = now (a .doc) in
     let v = a .v in
     let place = ap (λ (q : ℕ). v .start + q) (c .before .before .before .before .before .before .value-place .ensures .0 ∙ ap (λ (k : Kind). valuePlace k (v .count) (a .i)) (c .before .before .before .before .before .before .before .before .as-kind .ensures)) in
-    entry-stopped d v (a .i) (a .depth) (now (a .out)) (a .n) (record { start = 0; len = 0 }) (element-key d v (a .i) (c .before .before .before .before .before .before .before .before .before .before .before .pre .0)) (no-key-text d) (c .before .before .before .before .before .before .before .before .as-kind .ensures) place (c .before .before .before .before .list-entry .ensures .0) (c .before .before .before .before .list-entry .ensures .1) (c .before .if1 .taken) (c .stopped-by .ensures)
+    entry-stopped d v (a .i) (a .depth) (a .parent) (now (a .out)) (a .n) (record { start = 0; len = 0 }) (element-key d v (a .i) (c .before .before .before .before .before .before .before .before .before .before .before .pre .0)) (no-key-text d) (c .before .before .before .before .before .before .before .before .as-kind .ensures) place (c .before .before .before .before .list-entry .ensures .0) (c .before .before .before .before .list-entry .ensures .1) (c .before .if1 .taken) (c .stopped-by .ensures)
 
 put-path-requires : tie.Need-put-path-requires
 put-path-requires c κs =
@@ -55,15 +55,15 @@ put-path-requires c κs =
     let d = now (a .doc) in
     let v = a .v in
     let place = ap (λ (q : ℕ). v .start + q) (c .before .before .before .before .before .before .value-place .ensures .0 ∙ ap (λ (k : Kind). valuePlace k (v .count) (a .i)) (c .before .before .before .before .before .before .before .before .as-kind .ensures)) in
-    entry-open d v (a .i) (a .depth) (now (a .out)) (a .n) (record { start = 0; len = 0 }) (element-key d v (a .i) (c .before .before .before .before .before .before .before .before .before .before .before .pre .0)) (no-key-text d) (c .before .before .before .before .before .before .before .before .as-kind .ensures) place (c .before .before .before .before .list-entry .ensures .0) (c .before .before .before .before .list-entry .ensures .1) (c .before .if1 .left)
+    entry-open d v (a .i) (a .depth) (a .parent) (now (a .out)) (a .n) (record { start = 0; len = 0 }) (element-key d v (a .i) (c .before .before .before .before .before .before .before .before .before .before .before .pre .0)) (no-key-text d) (c .before .before .before .before .before .before .before .before .as-kind .ensures) place (c .before .before .before .before .list-entry .ensures .0) (c .before .before .before .before .list-entry .ensures .1) (c .before .if1 .left)
 
-add-t11 : tie.Need-add-t11
-add-t11 c =
+add-t12 : tie.Need-add-t12
+add-t12 c =
     let a = c .before .before .before .before .before .before .before .before .before .before .before .before .before .before .args in
     let d = now (a .doc) in
     let v = a .v in
     let place = ap (λ (q : ℕ). v .start + q) (c .before .before .before .before .before .before .before .before .before .value-place .ensures .0 ∙ ap (λ (k : Kind). valuePlace k (v .count) (a .i)) (c .before .before .before .before .before .before .before .before .before .before .before .as-kind .ensures)) in
-    omega (arith, entry-small d v (a .i) (a .depth) (now (a .out)) (a .n) (record { start = 0; len = 0 }) (element-key d v (a .i) (c .before .before .before .before .before .before .before .before .before .before .before .before .before .before .pre .0)) (no-key-text d) (c .before .before .before .before .before .before .before .before .before .before .before .as-kind .ensures) place (c .before .before .before .before .before .before .before .list-entry .ensures .0) (c .before .before .before .before .before .before .before .list-entry .ensures .1) (c .before .before .before .before .if1 .left))
+    omega (arith, entry-small d v (a .i) (a .depth) (a .parent) (now (a .out)) (a .n) (record { start = 0; len = 0 }) (element-key d v (a .i) (c .before .before .before .before .before .before .before .before .before .before .before .before .before .before .pre .0)) (no-key-text d) (c .before .before .before .before .before .before .before .before .before .before .before .as-kind .ensures) place (c .before .before .before .before .before .before .before .list-entry .ensures .0) (c .before .before .before .before .before .before .before .list-entry .ensures .1) (c .before .before .before .before .if1 .left))
 
 leads-at-requires : tie.Need-leads-at-requires
 leads-at-requires c κs =
@@ -71,7 +71,7 @@ leads-at-requires c κs =
     let d = now (a .doc) in
     let v = a .v in
     let place = ap (λ (q : ℕ). v .start + q) (c .before .before .before .before .before .before .before .before .before .before .value-place .ensures .0 ∙ ap (λ (k : Kind). valuePlace k (v .count) (a .i)) (c .before .before .before .before .before .before .before .before .before .before .before .before .as-kind .ensures)) in
-    omega (arith, entry-open d v (a .i) (a .depth) (now (a .out)) (a .n) (record { start = 0; len = 0 }) (element-key d v (a .i) (c .before .before .before .before .before .before .before .before .before .before .before .before .before .before .before .pre .0)) (no-key-text d) (c .before .before .before .before .before .before .before .before .before .before .before .before .as-kind .ensures) place (c .before .before .before .before .before .before .before .before .list-entry .ensures .0) (c .before .before .before .before .before .before .before .before .list-entry .ensures .1) (c .before .before .before .before .before .if1 .left), c .before .before .before .put-path .kept .0)
+    omega (arith, entry-open d v (a .i) (a .depth) (a .parent) (now (a .out)) (a .n) (record { start = 0; len = 0 }) (element-key d v (a .i) (c .before .before .before .before .before .before .before .before .before .before .before .before .before .before .before .pre .0)) (no-key-text d) (c .before .before .before .before .before .before .before .before .before .before .before .before .as-kind .ensures) place (c .before .before .before .before .before .before .before .before .list-entry .ensures .0) (c .before .before .before .before .before .before .before .before .list-entry .ensures .1) (c .before .before .before .before .before .if1 .left), c .before .before .before .put-path .kept .0)
 
 same-length-2 : tie.Need-same-length-2
 same-length-2 c = search needs
@@ -82,7 +82,7 @@ returns-2 c =
     let d = now (a .doc) in
     let v = a .v in
     let place = ap (λ (q : ℕ). v .start + q) (c .before .before .before .before .before .before .before .before .before .before .before .value-place .ensures .0 ∙ ap (λ (k : Kind). valuePlace k (v .count) (a .i)) (c .before .before .before .before .before .before .before .before .before .before .before .before .before .as-kind .ensures)) in
-    entry-listed d v (a .i) (a .depth) (now (a .out)) (a .n) (record { start = 0; len = 0 }) (element-key d v (a .i) (c .before .before .before .before .before .before .before .before .before .before .before .before .before .before .before .before .pre .0)) (no-key-text d) (c .before .before .before .before .before .before .before .before .before .before .before .before .before .as-kind .ensures) place (c .before .before .before .before .before .before .before .before .before .list-entry .ensures .0) (c .before .before .before .before .before .before .before .before .before .list-entry .ensures .1) (c .before .before .before .before .before .before .if1 .left) (c .before .before .before .before .put-path .ensures) (c .leads-at .ensures)
+    entry-listed d v (a .i) (a .depth) (a .parent) (now (a .out)) (a .n) (record { start = 0; len = 0 }) (element-key d v (a .i) (c .before .before .before .before .before .before .before .before .before .before .before .before .before .before .before .before .pre .0)) (no-key-text d) (c .before .before .before .before .before .before .before .before .before .before .before .before .before .as-kind .ensures) place (c .before .before .before .before .before .before .before .before .before .list-entry .ensures .0) (c .before .before .before .before .before .before .before .before .before .list-entry .ensures .1) (c .before .before .before .before .before .before .if1 .left) (c .before .before .before .before .put-path .ensures) (c .leads-at .ensures)
 
 pub list-element-spec : {M : Type 1} → statement M
 list-element-spec =
@@ -97,7 +97,7 @@ list-element-spec =
     same-length
     returns
     put-path-requires
-    add-t11
+    add-t12
     leads-at-requires
     same-length-2
     returns-2)

@@ -72,7 +72,7 @@ returns c =
     let v = a .v in
     let key-place = ap (λ (q : ℕ). v .start + q) (c .before .before .before .before .before .before .before .before .before .key-place .ensures .0 ∙ ap (λ (k : Kind). keyPlace k (a .i)) (c .before .before .before .before .before .before .before .before .before .before .before .as-kind .ensures)) in
     let key = member-key d v (a .i) (c .before .before .before .before .before .before .before .before .before .before .before .before .before .before .pre .1 .0) (c .before .before .before .before .before .before .before .before .before .before .before .before .before .before .pre .1 .1) key-place (c .before .before .before .before .before .before .before .before .key-at .ensures) (c .before .before .before .before .before .before .before .before .before .before .before .before .before .before .pre .0 .0) in
-    key-bad d v (a .i) (a .depth) (now (a .out)) (a .n) _ key _ (c .before .before .before .before .before .before .key .given .1) (c .before .before .before .is-key .ensures) (not-true _ (c .before .before .if1 .taken)) (c .before .break-or .ensures) (c .stopped .ensures)
+    key-bad d v (a .i) (a .depth) (a .parent) (now (a .out)) (a .n) _ key _ (c .before .before .before .before .before .before .key .given .1) (c .before .before .before .is-key .ensures) (not-true _ (c .before .before .if1 .taken)) (c .before .break-or .ensures) (c .stopped .ensures)
 
 cast-place : tie.Need-cast-place
 cast-place c = search needs
@@ -100,7 +100,7 @@ returns-2 c =
     let key-place = ap (λ (q : ℕ). v .start + q) (c .before .before .before .before .before .before .before .before .before .before .before .before .before .before .before .key-place .ensures .0 ∙ ap (λ (k : Kind). keyPlace k (a .i)) (c .before .before .before .before .before .before .before .before .before .before .before .before .before .before .before .before .before .as-kind .ensures)) in
     let key = member-key d v (a .i) (c .before .before .before .before .before .before .before .before .before .before .before .before .before .before .before .before .before .before .before .before .pre .1 .0) (c .before .before .before .before .before .before .before .before .before .before .before .before .before .before .before .before .before .before .before .before .pre .1 .1) key-place (c .before .before .before .before .before .before .before .before .before .before .before .before .before .before .key-at .ensures) (c .before .before .before .before .before .before .before .before .before .before .before .before .before .before .before .before .before .before .before .before .pre .0 .0) in
     let place = ap (λ (q : ℕ). v .start + q) (c .before .before .before .before .before .before .value-place .ensures .0 ∙ ap (λ (k : Kind). valuePlace k (v .count) (a .i)) (c .before .before .before .before .before .before .before .before .before .before .before .before .before .before .before .before .before .as-kind .ensures)) in
-    entry-stopped d v (a .i) (a .depth) (now (a .out)) (a .n) _ (key ∙ ap partSaid (c .before .before .before .before .before .before .before .before .before .before .before .before .key .given .1)) (valid-so _ (sym (c .before .before .before .before .before .before .before .before .before .is-key .ensures) ∙ not-false _ (c .before .before .before .before .before .before .before .before .if1 .left))) (c .before .before .before .before .before .before .before .before .before .before .before .before .before .before .before .before .before .as-kind .ensures) place (c .before .before .before .before .list-entry .ensures .0) (c .before .before .before .before .list-entry .ensures .1) (c .before .if2 .taken) (c .stopped-by .ensures)
+    entry-stopped d v (a .i) (a .depth) (a .parent) (now (a .out)) (a .n) _ (key ∙ ap partSaid (c .before .before .before .before .before .before .before .before .before .before .before .before .key .given .1)) (valid-so _ (sym (c .before .before .before .before .before .before .before .before .before .is-key .ensures) ∙ not-false _ (c .before .before .before .before .before .before .before .before .if1 .left))) (c .before .before .before .before .before .before .before .before .before .before .before .before .before .before .before .before .before .as-kind .ensures) place (c .before .before .before .before .list-entry .ensures .0) (c .before .before .before .before .list-entry .ensures .1) (c .before .if2 .taken) (c .stopped-by .ensures)
 
 put-path-requires : tie.Need-put-path-requires
 put-path-requires c κs =
@@ -110,17 +110,17 @@ put-path-requires c κs =
     let key-place = ap (λ (q : ℕ). v .start + q) (c .before .before .before .before .before .before .before .before .before .before .before .before .before .before .before .key-place .ensures .0 ∙ ap (λ (k : Kind). keyPlace k (a .i)) (c .before .before .before .before .before .before .before .before .before .before .before .before .before .before .before .before .before .as-kind .ensures)) in
     let key = member-key d v (a .i) (c .before .before .before .before .before .before .before .before .before .before .before .before .before .before .before .before .before .before .before .before .pre .1 .0) (c .before .before .before .before .before .before .before .before .before .before .before .before .before .before .before .before .before .before .before .before .pre .1 .1) key-place (c .before .before .before .before .before .before .before .before .before .before .before .before .before .before .key-at .ensures) (c .before .before .before .before .before .before .before .before .before .before .before .before .before .before .before .before .before .before .before .before .pre .0 .0) in
     let place = ap (λ (q : ℕ). v .start + q) (c .before .before .before .before .before .before .value-place .ensures .0 ∙ ap (λ (k : Kind). valuePlace k (v .count) (a .i)) (c .before .before .before .before .before .before .before .before .before .before .before .before .before .before .before .before .before .as-kind .ensures)) in
-    entry-open d v (a .i) (a .depth) (now (a .out)) (a .n) _ (key ∙ ap partSaid (c .before .before .before .before .before .before .before .before .before .before .before .before .key .given .1)) (valid-so _ (sym (c .before .before .before .before .before .before .before .before .before .is-key .ensures) ∙ not-false _ (c .before .before .before .before .before .before .before .before .if1 .left))) (c .before .before .before .before .before .before .before .before .before .before .before .before .before .before .before .before .before .as-kind .ensures) place (c .before .before .before .before .list-entry .ensures .0) (c .before .before .before .before .list-entry .ensures .1) (c .before .if2 .left)
+    entry-open d v (a .i) (a .depth) (a .parent) (now (a .out)) (a .n) _ (key ∙ ap partSaid (c .before .before .before .before .before .before .before .before .before .before .before .before .key .given .1)) (valid-so _ (sym (c .before .before .before .before .before .before .before .before .before .is-key .ensures) ∙ not-false _ (c .before .before .before .before .before .before .before .before .if1 .left))) (c .before .before .before .before .before .before .before .before .before .before .before .before .before .before .before .before .before .as-kind .ensures) place (c .before .before .before .before .list-entry .ensures .0) (c .before .before .before .before .list-entry .ensures .1) (c .before .if2 .left)
 
-add-t24 : tie.Need-add-t24
-add-t24 c =
+add-t25 : tie.Need-add-t25
+add-t25 c =
     let a = c .before .before .before .before .before .before .before .before .before .before .before .before .before .before .before .before .before .before .before .before .before .before .before .args in
     let d = now (a .doc) in
     let v = a .v in
     let key-place = ap (λ (q : ℕ). v .start + q) (c .before .before .before .before .before .before .before .before .before .before .before .before .before .before .before .before .before .before .key-place .ensures .0 ∙ ap (λ (k : Kind). keyPlace k (a .i)) (c .before .before .before .before .before .before .before .before .before .before .before .before .before .before .before .before .before .before .before .before .as-kind .ensures)) in
     let key = member-key d v (a .i) (c .before .before .before .before .before .before .before .before .before .before .before .before .before .before .before .before .before .before .before .before .before .before .before .pre .1 .0) (c .before .before .before .before .before .before .before .before .before .before .before .before .before .before .before .before .before .before .before .before .before .before .before .pre .1 .1) key-place (c .before .before .before .before .before .before .before .before .before .before .before .before .before .before .before .before .before .key-at .ensures) (c .before .before .before .before .before .before .before .before .before .before .before .before .before .before .before .before .before .before .before .before .before .before .before .pre .0 .0) in
     let place = ap (λ (q : ℕ). v .start + q) (c .before .before .before .before .before .before .before .before .before .value-place .ensures .0 ∙ ap (λ (k : Kind). valuePlace k (v .count) (a .i)) (c .before .before .before .before .before .before .before .before .before .before .before .before .before .before .before .before .before .before .before .before .as-kind .ensures)) in
-    omega (arith, entry-small d v (a .i) (a .depth) (now (a .out)) (a .n) _ (key ∙ ap partSaid (c .before .before .before .before .before .before .before .before .before .before .before .before .before .before .before .key .given .1)) (valid-so _ (sym (c .before .before .before .before .before .before .before .before .before .before .before .before .is-key .ensures) ∙ not-false _ (c .before .before .before .before .before .before .before .before .before .before .before .if1 .left))) (c .before .before .before .before .before .before .before .before .before .before .before .before .before .before .before .before .before .before .before .before .as-kind .ensures) place (c .before .before .before .before .before .before .before .list-entry .ensures .0) (c .before .before .before .before .before .before .before .list-entry .ensures .1) (c .before .before .before .before .if2 .left))
+    omega (arith, entry-small d v (a .i) (a .depth) (a .parent) (now (a .out)) (a .n) _ (key ∙ ap partSaid (c .before .before .before .before .before .before .before .before .before .before .before .before .before .before .before .key .given .1)) (valid-so _ (sym (c .before .before .before .before .before .before .before .before .before .before .before .before .is-key .ensures) ∙ not-false _ (c .before .before .before .before .before .before .before .before .before .before .before .if1 .left))) (c .before .before .before .before .before .before .before .before .before .before .before .before .before .before .before .before .before .before .before .before .as-kind .ensures) place (c .before .before .before .before .before .before .before .list-entry .ensures .0) (c .before .before .before .before .before .before .before .list-entry .ensures .1) (c .before .before .before .before .if2 .left))
 
 leads-at-requires : tie.Need-leads-at-requires
 leads-at-requires c κs =
@@ -130,7 +130,7 @@ leads-at-requires c κs =
     let key-place = ap (λ (q : ℕ). v .start + q) (c .before .before .before .before .before .before .before .before .before .before .before .before .before .before .before .before .before .before .before .key-place .ensures .0 ∙ ap (λ (k : Kind). keyPlace k (a .i)) (c .before .before .before .before .before .before .before .before .before .before .before .before .before .before .before .before .before .before .before .before .before .as-kind .ensures)) in
     let key = member-key d v (a .i) (c .before .before .before .before .before .before .before .before .before .before .before .before .before .before .before .before .before .before .before .before .before .before .before .before .pre .1 .0) (c .before .before .before .before .before .before .before .before .before .before .before .before .before .before .before .before .before .before .before .before .before .before .before .before .pre .1 .1) key-place (c .before .before .before .before .before .before .before .before .before .before .before .before .before .before .before .before .before .before .key-at .ensures) (c .before .before .before .before .before .before .before .before .before .before .before .before .before .before .before .before .before .before .before .before .before .before .before .before .pre .0 .0) in
     let place = ap (λ (q : ℕ). v .start + q) (c .before .before .before .before .before .before .before .before .before .before .value-place .ensures .0 ∙ ap (λ (k : Kind). valuePlace k (v .count) (a .i)) (c .before .before .before .before .before .before .before .before .before .before .before .before .before .before .before .before .before .before .before .before .before .as-kind .ensures)) in
-    omega (arith, entry-open d v (a .i) (a .depth) (now (a .out)) (a .n) _ (key ∙ ap partSaid (c .before .before .before .before .before .before .before .before .before .before .before .before .before .before .before .before .key .given .1)) (valid-so _ (sym (c .before .before .before .before .before .before .before .before .before .before .before .before .before .is-key .ensures) ∙ not-false _ (c .before .before .before .before .before .before .before .before .before .before .before .before .if1 .left))) (c .before .before .before .before .before .before .before .before .before .before .before .before .before .before .before .before .before .before .before .before .before .as-kind .ensures) place (c .before .before .before .before .before .before .before .before .list-entry .ensures .0) (c .before .before .before .before .before .before .before .before .list-entry .ensures .1) (c .before .before .before .before .before .if2 .left), c .before .before .before .put-path .kept .0)
+    omega (arith, entry-open d v (a .i) (a .depth) (a .parent) (now (a .out)) (a .n) _ (key ∙ ap partSaid (c .before .before .before .before .before .before .before .before .before .before .before .before .before .before .before .before .key .given .1)) (valid-so _ (sym (c .before .before .before .before .before .before .before .before .before .before .before .before .before .is-key .ensures) ∙ not-false _ (c .before .before .before .before .before .before .before .before .before .before .before .before .if1 .left))) (c .before .before .before .before .before .before .before .before .before .before .before .before .before .before .before .before .before .before .before .before .before .as-kind .ensures) place (c .before .before .before .before .before .before .before .before .list-entry .ensures .0) (c .before .before .before .before .before .before .before .before .list-entry .ensures .1) (c .before .before .before .before .before .if2 .left), c .before .before .before .put-path .kept .0)
 
 enum-known-number : tie.Need-enum-known-number
 enum-known-number c = search needs
@@ -149,7 +149,7 @@ returns-3 c =
     let key-place = ap (λ (q : ℕ). v .start + q) (c .before .before .before .before .before .before .before .before .before .before .before .before .before .before .before .before .before .before .before .before .key-place .ensures .0 ∙ ap (λ (k : Kind). keyPlace k (a .i)) (c .before .before .before .before .before .before .before .before .before .before .before .before .before .before .before .before .before .before .before .before .before .before .as-kind .ensures)) in
     let key = member-key d v (a .i) (c .before .before .before .before .before .before .before .before .before .before .before .before .before .before .before .before .before .before .before .before .before .before .before .before .before .pre .1 .0) (c .before .before .before .before .before .before .before .before .before .before .before .before .before .before .before .before .before .before .before .before .before .before .before .before .before .pre .1 .1) key-place (c .before .before .before .before .before .before .before .before .before .before .before .before .before .before .before .before .before .before .before .key-at .ensures) (c .before .before .before .before .before .before .before .before .before .before .before .before .before .before .before .before .before .before .before .before .before .before .before .before .before .pre .0 .0) in
     let place = ap (λ (q : ℕ). v .start + q) (c .before .before .before .before .before .before .before .before .before .before .before .value-place .ensures .0 ∙ ap (λ (k : Kind). valuePlace k (v .count) (a .i)) (c .before .before .before .before .before .before .before .before .before .before .before .before .before .before .before .before .before .before .before .before .before .before .as-kind .ensures)) in
-    entry-listed d v (a .i) (a .depth) (now (a .out)) (a .n) _ (key ∙ ap partSaid (c .before .before .before .before .before .before .before .before .before .before .before .before .before .before .before .before .before .key .given .1)) (valid-so _ (sym (c .before .before .before .before .before .before .before .before .before .before .before .before .before .before .is-key .ensures) ∙ not-false _ (c .before .before .before .before .before .before .before .before .before .before .before .before .before .if1 .left))) (c .before .before .before .before .before .before .before .before .before .before .before .before .before .before .before .before .before .before .before .before .before .before .as-kind .ensures) place (c .before .before .before .before .before .before .before .before .before .list-entry .ensures .0) (c .before .before .before .before .before .before .before .before .before .list-entry .ensures .1) (c .before .before .before .before .before .before .if2 .left) (c .before .before .before .before .put-path .ensures) (c .leads-at .ensures)
+    entry-listed d v (a .i) (a .depth) (a .parent) (now (a .out)) (a .n) _ (key ∙ ap partSaid (c .before .before .before .before .before .before .before .before .before .before .before .before .before .before .before .before .before .key .given .1)) (valid-so _ (sym (c .before .before .before .before .before .before .before .before .before .before .before .before .before .before .is-key .ensures) ∙ not-false _ (c .before .before .before .before .before .before .before .before .before .before .before .before .before .if1 .left))) (c .before .before .before .before .before .before .before .before .before .before .before .before .before .before .before .before .before .before .before .before .before .before .as-kind .ensures) place (c .before .before .before .before .before .before .before .before .before .list-entry .ensures .0) (c .before .before .before .before .before .before .before .before .before .list-entry .ensures .1) (c .before .before .before .before .before .before .if2 .left) (c .before .before .before .before .put-path .ensures) (c .leads-at .ensures)
 
 returns-4 : tie.Need-returns-4
 returns-4 c =
@@ -158,7 +158,7 @@ returns-4 c =
     let v = a .v in
     let key-place = ap (λ (q : ℕ). v .start + q) (c .before .before .before .before .before .key-place .ensures .0 ∙ ap (λ (k : Kind). keyPlace k (a .i)) (c .before .before .before .before .before .before .before .as-kind .ensures)) in
     let key = member-key d v (a .i) (c .before .before .before .before .before .before .before .before .before .before .pre .1 .0) (c .before .before .before .before .before .before .before .before .before .before .pre .1 .1) key-place (c .before .before .before .before .key-at .ensures) (c .before .before .before .before .before .before .before .before .before .before .pre .0 .0) in
-    key-refused d v (a .i) (a .depth) (now (a .out)) (a .n) _ key key-place (c .before .before .number .given .1) (c .stopped2 .ensures)
+    key-refused d v (a .i) (a .depth) (a .parent) (now (a .out)) (a .n) _ key key-place (c .before .before .number .given .1) (c .stopped2 .ensures)
 
 pub list-member-spec : {M : Type 1} → statement M
 list-member-spec =
@@ -183,7 +183,7 @@ list-member-spec =
     same-length-2
     returns-2
     put-path-requires
-    add-t24
+    add-t25
     leads-at-requires
     enum-known-number
     stopped-requires-2

@@ -83,7 +83,7 @@ returns-2 c =
     let root = rooted d o own (c .before .before .before .before .before .before .before .before .before .before .before .before .own .given .1) in
     walks d o
     (root-done d o (rootRead d) refl own (c .before .before .before .before .before .before .before .before .before .before .before .before .own .given .1)
-    (container-below _ _ _ _ _ (array-so (rootRead d) (c .before .before .before .before .before .before .before .leads-at .ensures ∙ root .leads) (c .before .before .before .before .before .u .given .1) .0) (c .before .before .walk-array .ensures .0)))
+    (container-below _ _ _ _ _ _ (array-so (rootRead d) (c .before .before .before .before .before .before .before .leads-at .ensures ∙ root .leads) (c .before .before .before .before .before .u .given .1) .0) (c .before .before .walk-array .ensures .0)))
 
 same-length-3 : tie.Need-same-length-3
 same-length-3 c = search needs
@@ -97,7 +97,7 @@ returns-3 c =
     let root = rooted d o own (c .before .before .before .before .before .before .before .before .before .before .before .before .own .given .1) in
     walks d o
     (root-done d o (rootRead d) refl own (c .before .before .before .before .before .before .before .before .before .before .before .before .own .given .1)
-    (container-below _ _ _ _ _ (object-so (rootRead d) (c .before .before .before .before .before .before .before .leads-at .ensures ∙ root .leads) (c .before .before .before .before .before .u2 .given .1) .0) (c .before .before .walk-object .ensures .0)))
+    (container-below _ _ _ _ _ _ (object-so (rootRead d) (c .before .before .before .before .before .before .before .leads-at .ensures ∙ root .leads) (c .before .before .before .before .before .u2 .given .1) .0) (c .before .before .walk-object .ensures .0)))
 
 same-length-4 : tie.Need-same-length-4
 same-length-4 c = search needs
@@ -111,7 +111,7 @@ returns-4 c =
     let root = rooted d o own (c .before .before .before .before .before .before .before .own .given .1) in
     walks d o
     (root-done d o (rootRead d) refl own (c .before .before .before .before .before .before .before .own .given .1)
-    (nothing-below _ _ _ _ _ (nothing-so (rootRead d) (c .before .before .leads-at .ensures ∙ root .leads) (c .enum-told2 .given .1) _ _)))
+    (nothing-below _ _ _ _ _ _ (nothing-so (rootRead d) (c .before .before .leads-at .ensures ∙ root .leads) (c .enum-told2 .given .1) _ _ _)))
 
 pub walk-spec : {M : Type 1} → statement M
 walk-spec =

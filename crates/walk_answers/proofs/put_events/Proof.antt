@@ -1,4 +1,4 @@
--- The index is below eight times the count, and so many events were tested to be there.
+-- The index is below the numbers of so many events, and they were tested to be there.
 -- Assumes nothing.
 use Prim.Native.Nat.{_≤_, _-_}
 use mathlib.Core.Path.{_≡_}
@@ -8,10 +8,10 @@ use Rattle.walk_answers.proofs.put_events.Statement.{statement}
 use Rattle.walk_answers.proofs.put_events.Tie as tie
 
 abbrev Inv-loop : tie.InvT-loop
-Inv-loop out₀ at events count next₀ end i₀ out next i = (i ≤ end) × (length out ≡ length out₀)
+Inv-loop out₀ at numbers count next₀ end i₀ out next i = (i ≤ end) × (length out ≡ length out₀)
 
 abbrev μ-loop : tie.MeasureT-loop
-μ-loop out₀ at events count next₀ end i₀ out next i = end - i
+μ-loop out₀ at numbers count next₀ end i₀ out next i = end - i
 
 put-number-requires : tie.Need-put-number-requires Inv-loop μ-loop
 put-number-requires c κs = search needs

@@ -11,7 +11,7 @@ slice-relend-prefix-walk : tie.Need-slice-relend-prefix-walk
 slice-relend-prefix-walk c = search needs
 
 slice-aggregate-walk : tie.Need-slice-aggregate-walk
-slice-aggregate-walk c = let a = c .before .before .before .before .args in sym (length-take-le (a .end) (now (a .events)) (search needs))
+slice-aggregate-walk c = let a = c .before .before .before .before .args in sym (length-take-le (a .end) (now (a .numbers)) (search needs))
 
 walk-requires : tie.Need-walk-requires
 walk-requires c κs = search needs
