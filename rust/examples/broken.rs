@@ -9,13 +9,12 @@ fn path_after(events: &[Event]) -> Option<(Event, u32)> {
     if child.code <= 3 && child.extra > 0 {
         return Some((child, 0));
     }
-    for container in events.iter().rev().copied() {
-        if container.depth + 1 == child.depth {
-            if child.position + 1 < container.extra {
-                return Some((container, child.position + 1));
-            }
-            child = container;
+    while child.depth > 0 {
+        let container = events[child.parent as usize];
+        if child.position + 1 < container.extra {
+            return Some((container, child.position + 1));
         }
+        child = container;
     }
     None
 }

@@ -105,7 +105,7 @@ pub fn element_count(doc: &[u8], code: u32, start: u32, size: u32, count: u32, a
     unsafe { archive::bratthelm_element_count(doc.as_ptr(), doc.len(), code, start, size, count, answer.as_mut_ptr(), answer.len()) }
 }
 
-/// Every path of the document as events of eight numbers; the row is the count of events and the place of the fault.
+/// Every path of the document as events of nine numbers; the row is the count of events and the place of the fault.
 pub fn walk(doc: &[u8], events: &mut [u32], answer: &mut [u32]) -> u32 {
     // SAFETY: as in `root`; `events` and `answer` are two exclusive slices, so they do not overlap either.
     unsafe { archive::bratthelm_walk(doc.as_ptr(), doc.len(), events.as_mut_ptr(), events.len(), answer.as_mut_ptr(), answer.len()) }

@@ -5,7 +5,7 @@
 //! slices, text and digit bytes are written to lent slices, and every error is a [`Refusal`] with its number.
 //!
 //! ```
-//! use bratthelm::{walk, Decimal, Value};
+//! use bratthelm::{walk, Decimal, Value, EVENT_LEN};
 //!
 //! # fn main() -> Result<(), Box<dyn std::error::Error>> {
 //! let doc = [0x00, 0x01, 0x00, 0x11, 0x00, 0x0B, 0x00, 0x01, 0x00, 0x0C, 0x0C, 0x00, 0x61, 0x04, 0x5A, 0x6F, 0xC3, 0xAB];
@@ -14,7 +14,7 @@
 //!     assert_eq!(key.value_raw(), b"a");
 //!     assert!(matches!(value, Value::String(name) if name.str_raw() == "Zoë".as_bytes()));
 //! }
-//! let mut events = [0; 8 * 64];
+//! let mut events = [0; 64 * EVENT_LEN];
 //! for event in walk(&doc, &mut events) {
 //!     let event = event?; // the refusal, where the walk stopped
 //!     println!("{} {:?}", event.code, event.part.of(&doc));

@@ -4,7 +4,7 @@ use crate::refusal::{answered, Refusal};
 use core::fmt;
 
 /// How many numbers an event takes of the buffer.
-pub const EVENT_LEN: usize = 8;
+pub const EVENT_LEN: usize = 9;
 
 /// Bytes of the document, counted from its first.
 #[derive(Debug, Clone, Copy, PartialEq, Eq, Default)]
@@ -26,7 +26,7 @@ pub struct Event {
     /// Type code: 0 small object, 1 large object, 2 small array, 3 large array, 4 literal, 5 Int16, 6 UInt16, 7 Int32, 8 UInt32, 9 Int64, 10 UInt64,
     /// 11 double, 12 string, 15 opaque.
     pub code: u32,
-    /// How many positions the path has; the container of an event is the last event before it with a depth one less.
+    /// How many positions the path has, and so how many steps by `parent` lead to the root.
     pub depth: u32,
     /// The last of them; 0 at the root.
     pub position: u32,
@@ -36,6 +36,16 @@ pub struct Event {
     pub part: Span,
     /// A container's count, an opaque value's column type, else 0.
     pub extra: u32,
+    /// The index of the event of its container, which stands before it: [`Walk::parent`] gives that event. 0 at the root, which has none.
+    pub parent: u32,
+}
+
+impl Event {
+    fn of(&[code, depth, position, key, key_len, part, part_len, extra, parent]: &[u32; EVENT_LEN]) -> Event {
+        let key = Span { start: key, len: key_len };
+        let part = Span { start: part, len: part_len };
+        Event { code, depth, position, key, part, extra, parent }
+    }
 }
 
 /// Where and why a walk stopped.
@@ -62,7 +72,7 @@ impl fmt::Display for Stopped {
 
 impl core::error::Error for Stopped {}
 
-/// Walks a document: 1 to 12. `events` has room for an event for each eight numbers; those behind the last event stay as they were.
+/// Walks a document: 1 to 12. `events` has room for an event for each nine numbers, [`EVENT_LEN`]; those behind the last event stay as they were.
 ///
 /// Many paths may lead to the same bytes, so a hostile document can fill any buffer: the length of `events` is what bounds the work. A walk takes
 /// some 30,800 bytes of stack at most, whatever the document.
@@ -71,7 +81,8 @@ pub fn walk<'e>(doc: &[u8], events: &'e mut [u32]) -> Walk<'e> {
     let returned = calls::walk(doc, events, &mut row);
     let [count, place] = row;
     let end = answered(returned).map(|()| count).map_err(|refusal| Stopped { refusal, place, count });
-    Walk { left: &events[..count as usize * EVENT_LEN], end, told: end.is_ok() }
+    let all = &events[..count as usize * EVENT_LEN];
+    Walk { all, left: all, end, told: end.is_ok() }
 }
 
 /// The events of a walk in order and, where it stopped, last of all why.
@@ -80,6 +91,7 @@ pub fn walk<'e>(doc: &[u8], events: &'e mut [u32]) -> Walk<'e> {
 #[derive(Debug, Clone)]
 #[must_use = "a walk may have stopped"]
 pub struct Walk<'e> {
+    all: &'e [u32],
     left: &'e [u32],
     end: Result<u32, Stopped>,
     told: bool,
@@ -90,17 +102,43 @@ impl Walk<'_> {
     pub fn end(&self) -> Result<u32, Stopped> {
         self.end
     }
+
+    /// The event of an index, counted from the root's 0, however many were taken already; `None` past the last.
+    pub fn event(&self, index: u32) -> Option<Event> {
+        self.all.get(index as usize * EVENT_LEN..)?.first_chunk().map(Event::of)
+    }
+
+    /// The event of the container of an event of this walk; `None` for the root. As many steps as its depth lead from an event to the root, also where
+    /// the walk stopped later.
+    ///
+    /// ```
+    /// use bratthelm::{walk, EVENT_LEN};
+    /// use std::iter::successors;
+    ///
+    /// // true inside two arrays, behind an empty one, in an array
+    /// let doc = b"\x02\x02\0\x1C\0\x02\x0A\0\x02\x0E\0\0\0\x04\0\x01\0\x0E\0\x02\x07\0\x01\0\x07\0\x04\x01\0";
+    /// let mut events = [0; 64 * EVENT_LEN];
+    /// let walk = walk(doc, &mut events);
+    /// let literal = walk.event(4).unwrap();
+    /// // from the literal to the root, each with its position in its container
+    /// let climb: Vec<_> = successors(Some(literal), |&event| walk.parent(event)).map(|event| (event.depth, event.position)).collect();
+    /// assert_eq!(climb, [(3, 0), (2, 0), (1, 1), (0, 0)]);
+    /// ```
+    pub fn parent(&self, event: Event) -> Option<Event> {
+        if event.depth == 0 {
+            return None;
+        }
+        self.event(event.parent)
+    }
 }
 
 impl Iterator for Walk<'_> {
     type Item = Result<Event, Stopped>;
 
     fn next(&mut self) -> Option<Self::Item> {
-        if let Some((&[code, depth, position, key, key_len, part, part_len, extra], left)) = self.left.split_first_chunk() {
+        if let Some((numbers, left)) = self.left.split_first_chunk() {
             self.left = left;
-            let key = Span { start: key, len: key_len };
-            let part = Span { start: part, len: part_len };
-            return Some(Ok(Event { code, depth, position, key, part, extra }));
+            return Some(Ok(Event::of(numbers)));
         }
         if self.told {
             return None;

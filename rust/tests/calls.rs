@@ -25,7 +25,7 @@ fn short_answers() {
     room(5, |answer| calls::elem_at(&LIST, 2, 1, 10, 2, 0, answer));
     room(3, |answer| calls::key_at(&[0, 0, 0, 4, 0], 0, 1, 4, 0, 0, answer));
     room(1, |answer| calls::element_count(&LIST, 2, 1, 10, 2, answer));
-    room(2, |answer| calls::walk(&LIST, &mut [0; 24], answer));
+    room(2, |answer| calls::walk(&LIST, &mut [0; 27], answer));
     room(12, |answer| calls::decimal_read_bin(&[0x8C, 0x22], 4, 2, 1, answer));
     room(12, |answer| calls::decimal_read_packed(&[0x04, 0x02, 0x8C, 0x22], 1, answer));
     room(12, |answer| calls::decimal_parse(b"12.34", answer));
@@ -45,11 +45,11 @@ fn room_comes_first() {
     assert_eq!(calls::key_at(&long, 9, 9, 9, 9, 9, &mut [0; 3]), 1);
     assert_eq!(calls::element_count(&long, 9, 9, 9, 9, &mut []), 25);
     assert_eq!(calls::element_count(&long, 9, 9, 9, 9, &mut [0]), 1);
-    let (mut events, mut bytes, mut text) = ([7; 24], [7; 36], [7; 67]);
+    let (mut events, mut bytes, mut text) = ([7; 27], [7; 36], [7; 67]);
     assert_eq!(calls::walk(&LIST, &mut events, &mut [0]), 25);
     assert_eq!(calls::decimal_write_bin(&PRICE, &mut bytes, &mut []), 25);
     assert_eq!(calls::decimal_print(&PRICE, &mut text, &mut []), 25);
-    assert!(events == [7; 24] && bytes == [7; 36] && text == [7; 67]);
+    assert!(events == [7; 27] && bytes == [7; 36] && text == [7; 67]);
     assert_eq!(calls::decimal_parse(b".", &mut [0; 11]), 25);
     assert_eq!(calls::decimal_read_bin(&[], 99, 99, 0, &mut [0; 11]), 25);
     assert_eq!(calls::decimal_read_packed(&[], 0, &mut [0; 11]), 25);

@@ -1,7 +1,7 @@
 //! Document 01's examples, and each refusal of its table, asked of the archive. Two things cannot be asked here: the length 4,026,531,840 itself, since no
 //! document is as long, and what the program jsonb-list prints.
 use bratthelm::jsonb::NEWDECIMAL;
-use bratthelm::{walk, Decimal, Refusal, Stopped, Value, EVENT_LEN};
+use bratthelm::{walk, Decimal, Event, Refusal, Stopped, Value, EVENT_LEN};
 use std::cmp::Ordering::{Equal, Greater, Less};
 
 const LIST: &str = "02 02 00 0A 00 04 01 00 05 FE FF";
@@ -12,11 +12,11 @@ fn bytes(hex: &str) -> Vec<u8> {
     hex.split_whitespace().map(|byte| u8::from_str_radix(byte, 16).unwrap()).collect()
 }
 
-/// The events of a walk with room for so many, eight numbers each, and its end. What stands behind the events must be as it was.
+/// The events of a walk with room for so many, nine numbers each, and its end. What stands behind the events must be as it was.
 fn walked(doc: &[u8], room: usize) -> (Vec<[u32; EVENT_LEN]>, Result<u32, Stopped>) {
     const UNTOUCHED: u32 = 0xDEAD_BEEF;
-    // Seven numbers more are lent, which are no room.
-    let mut lent = vec![UNTOUCHED; room * EVENT_LEN + 7];
+    // Eight numbers more are lent, which are no room.
+    let mut lent = vec![UNTOUCHED; room * EVENT_LEN + 8];
     let walk = walk(doc, &mut lent);
     let end = walk.end();
     let mut events = Vec::new();
@@ -24,7 +24,7 @@ fn walked(doc: &[u8], room: usize) -> (Vec<[u32; EVENT_LEN]>, Result<u32, Stoppe
     for item in walk {
         assert!(told.is_ok(), "nothing follows a refusal");
         match item {
-            Ok(e) => events.push([e.code, e.depth, e.position, e.key.start, e.key.len, e.part.start, e.part.len, e.extra]),
+            Ok(e) => events.push([e.code, e.depth, e.position, e.key.start, e.key.len, e.part.start, e.part.len, e.extra, e.parent]),
             Err(stopped) => told = Err(stopped),
         }
     }
@@ -71,9 +71,9 @@ fn nested(arrays: usize) -> Vec<u8> {
 #[test]
 fn list_of_true_and_minus_2() {
     let doc = bytes(LIST);
-    let all = [[2, 0, 0, 0, 0, 1, 10, 2], [4, 1, 0, 0, 0, 6, 1, 0], [5, 1, 1, 0, 0, 9, 2, 0]];
+    let all = [[2, 0, 0, 0, 0, 1, 10, 2, 0], [4, 1, 0, 0, 0, 6, 1, 0, 0], [5, 1, 1, 0, 0, 9, 2, 0, 0]];
     assert_eq!(walked(&doc, 3), (all.to_vec(), Ok(3)));
-    assert_eq!(walked(&doc, 2048), (all.to_vec(), Ok(3)));
+    assert_eq!(walked(&doc, 1820), (all.to_vec(), Ok(3)));
     assert_eq!(walked(&doc, 2), (all[..2].to_vec(), stopped(Refusal::Events, 8, 2)));
     assert_eq!(walked(&doc, 0), (vec![], stopped(Refusal::Events, 0, 0)));
     let array = Value::deserialize(&doc).unwrap().as_array().unwrap();
@@ -90,11 +90,80 @@ fn list_of_true_and_minus_2() {
 fn literal_inside_100_and_101_arrays() {
     let (events, end) = walked(&nested(100), 200);
     assert_eq!(end, Ok(101));
-    assert_eq!(events[99], [2, 99, 0, 0, 0, 1 + 7 * 99, 7, 1]);
-    assert_eq!(events[100], [4, 100, 0, 0, 0, 699, 1, 0]);
+    assert_eq!(events[99], [2, 99, 0, 0, 0, 1 + 7 * 99, 7, 1, 98]);
+    assert_eq!(events[100], [4, 100, 0, 0, 0, 699, 1, 0, 99]);
     let (events, end) = walked(&nested(101), 200);
     assert_eq!(end, stopped(Refusal::Depth, 705, 101));
-    assert_eq!(events[100], [2, 100, 0, 0, 0, 1 + 7 * 100, 7, 1]);
+    assert_eq!(events[100], [2, 100, 0, 0, 0, 1 + 7 * 100, 7, 1, 99]);
+}
+
+/// Two arrays in an array, of null and true and of false.
+const ARRAYS: &str = "02 02 00 1B 00 02 0A 00 02 14 00 02 00 0A 00 04 00 00 04 01 00 01 00 07 00 04 02 00";
+/// A member that is an array of two nulls, and true beside it.
+const BESIDE: &str = "00 02 00 1E 00 12 00 01 00 13 00 01 00 02 14 00 04 01 00 61 62 02 00 0A 00 04 00 00 04 00 00";
+
+/// The containers of a walk's events by their indices. Each event must climb to the root in as many steps as its depth, and its path, as the events
+/// before it tell it, must be its container's and its own position.
+fn parents(doc: &[u8], room: usize) -> (Vec<u32>, Result<u32, Stopped>) {
+    let mut lent = vec![0; room * EVENT_LEN];
+    let walk = walk(doc, &mut lent);
+    let events: Vec<Event> = walk.clone().map_while(Result::ok).collect();
+    let (mut path, mut paths) = (Vec::new(), Vec::new());
+    for (i, &event) in events.iter().enumerate() {
+        assert_eq!(walk.event(i as u32), Some(event));
+        // A path comes before what is below it: an event's path goes on with the one of the last event of a depth one less.
+        path.truncate((event.depth as usize).saturating_sub(1));
+        path.extend((event.depth > 0).then_some(event.position));
+        paths.push(path.clone());
+        let climb: Vec<Event> = std::iter::successors(Some(event), |&event| walk.parent(event)).collect();
+        assert_eq!(climb.len() as u32, event.depth + 1);
+        assert_eq!(climb.last(), events.first());
+        assert!(climb.iter().rev().skip(1).map(|event| event.position).eq(path.iter().copied()));
+        if event.depth > 0 {
+            assert!((event.parent as usize) < i);
+            assert_eq!(paths[event.parent as usize], path[..path.len() - 1]);
+        } else {
+            assert_eq!((i, event.parent, walk.parent(event)), (0, 0, None));
+        }
+    }
+    assert_eq!(walk.event(events.len() as u32), None);
+    assert_eq!(walk.event(u32::MAX), None);
+    (events.iter().map(|event| event.parent).collect(), walk.end())
+}
+
+#[test]
+fn each_event_climbs_to_the_root() {
+    assert_eq!(parents(&[], 1), (vec![0], Ok(1)));
+    assert_eq!(parents(&bytes(LIST), 3), (vec![0, 0, 0], Ok(3)));
+    assert_eq!(parents(&bytes(ARRAYS), 9), (vec![0, 0, 1, 1, 0, 4], Ok(6)));
+    assert_eq!(parents(&bytes(BESIDE), 9), (vec![0, 0, 1, 1, 0], Ok(5)));
+    // an empty array contains nothing; the same array at two positions is two events, each with its element
+    assert_eq!(
+        parents(&bytes("02 02 00 1C 00 02 0A 00 02 0E 00 00 00 04 00 01 00 0E 00 02 07 00 01 00 07 00 04 01 00"), 9),
+        (vec![0, 0, 0, 2, 3], Ok(5))
+    );
+    assert_eq!(parents(&bytes("02 02 00 11 00 02 0A 00 02 0A 00 01 00 07 00 04 01 00"), 9), (vec![0, 0, 1, 0, 3], Ok(5)));
+    let chain = |last: u32| std::iter::once(0).chain(0..last).collect::<Vec<_>>();
+    assert_eq!(parents(&nested(100), 101), (chain(100), Ok(101)));
+}
+
+#[test]
+fn events_before_a_refusal_climb_too() {
+    let mut literal = bytes(ARRAYS);
+    literal[26] = 3;
+    assert_eq!(parents(&literal, 9), (vec![0, 0, 1, 1, 0], stopped(Refusal::Literal, 25, 5)));
+    let mut code = bytes(ARRAYS);
+    code[8] = 13;
+    assert_eq!(parents(&code, 9), (vec![0, 0, 1, 1], stopped(Refusal::Type, 8, 4)));
+    let mut beside = bytes(BESIDE);
+    beside[17] = 3;
+    assert_eq!(parents(&beside, 9), (vec![0, 0, 1, 1], stopped(Refusal::Literal, 16, 4)));
+    for (room, place) in [(0, 0), (1, 5), (2, 15), (3, 18), (4, 8), (5, 25)] {
+        let (found, end) = parents(&bytes(ARRAYS), room);
+        assert_eq!((&found[..], end), (&[0, 0, 1, 1, 0][..room], stopped(Refusal::Events, place, room as u32)));
+    }
+    let (found, end) = parents(&nested(101), 200);
+    assert_eq!((found.len(), found[100], end), (101, 99, stopped(Refusal::Depth, 705, 101)));
 }
 
 #[test]
@@ -110,9 +179,9 @@ fn member_a_is_zoe() {
     assert_eq!(members.len(), 1);
     assert!(matches!(members[0], (key, Value::String(name)) if key.value_raw() == b"a" && name.str_raw() == "Zoë".as_bytes()));
 
-    let root = [0, 0, 0, 0, 0, 1, 17, 1];
-    assert_eq!(walked(&doc, 2), (vec![root, [12, 1, 0, 12, 1, 14, 4, 0]], Ok(2)));
-    let mut lent = [0; 16];
+    let root = [0, 0, 0, 0, 0, 1, 17, 1, 0];
+    assert_eq!(walked(&doc, 2), (vec![root, [12, 1, 0, 12, 1, 14, 4, 0, 0]], Ok(2)));
+    let mut lent = [0; 2 * EVENT_LEN];
     let event = walk(&doc, &mut lent).nth(1).unwrap().unwrap();
     assert_eq!((event.key.of(&doc), event.part.of(&doc)), (Some(&b"a"[..]), Some("Zoë".as_bytes())));
     assert_eq!(event.part.of(&doc[..17]), None);
@@ -120,7 +189,7 @@ fn member_a_is_zoe() {
 
 #[test]
 fn zoe_damaged() {
-    let root = vec![[0, 0, 0, 0, 0, 1, 17, 1]];
+    let root = vec![[0, 0, 0, 0, 0, 1, 17, 1, 0]];
     let mut cut = bytes(ZOE);
     cut[17] = 0x22;
     assert_eq!(walked(&cut, 2), (root.clone(), stopped(Refusal::Utf8, 17, 1)));
@@ -132,7 +201,7 @@ fn zoe_damaged() {
     assert_eq!(object.key_at(0).unwrap_err(), Refusal::Key);
     assert!(object.elem_at(0).unwrap().is_some());
     let key = walked(&bytes("00 01 00 0C 00 0B 00 01 00 04 01 00 FF"), 2);
-    assert_eq!(key, (vec![[0, 0, 0, 0, 0, 1, 12, 1]], stopped(Refusal::Utf8, 12, 1)));
+    assert_eq!(key, (vec![[0, 0, 0, 0, 0, 1, 12, 1, 0]], stopped(Refusal::Utf8, 12, 1)));
 }
 
 /// The byte of a break by the standard library's error, which begins with a character: its bytes that are right are passed over.
@@ -156,9 +225,9 @@ fn texts_break_at_their_byte() {
         let at = |from: usize, count: u32| place.map(|p| Stopped { refusal: Refusal::Utf8, place: (from + p) as u32, count });
         // a root string, and the key of a member null; a byte that may go on follows both
         let string = [&[0x0C, 4][..], &text, &[0xBF]].concat();
-        assert_eq!(walk(&string, &mut [0; 16]).end().err(), at(2, 0), "{text:02x?}");
+        assert_eq!(walk(&string, &mut [0; 2 * EVENT_LEN]).end().err(), at(2, 0), "{text:02x?}");
         let object = [&bytes("00 01 00 10 00 0B 00 04 00 04 00 00")[..], &text, &[0xBF]].concat();
-        assert_eq!(walk(&object, &mut [0; 16]).end().err(), at(12, 1), "{text:02x?}");
+        assert_eq!(walk(&object, &mut [0; 2 * EVENT_LEN]).end().err(), at(12, 1), "{text:02x?}");
         broken += u32::from(place.is_some());
     }
     assert!(0 < broken && broken < 8000, "{broken} of 8000");
@@ -198,7 +267,7 @@ fn literals_and_type_codes() {
     assert_eq!(refused("0D"), Refusal::Type);
     assert_eq!(refused("0E"), Refusal::Type);
     assert!(matches!(Value::deserialize(&[]), Ok(Value::Null)));
-    assert_eq!(walked(&[], 1), (vec![[4, 0, 0, 0, 0, 0, 0, 0]], Ok(1)));
+    assert_eq!(walked(&[], 1), (vec![[4, 0, 0, 0, 0, 0, 0, 0, 0]], Ok(1)));
 }
 
 #[test]
@@ -229,7 +298,7 @@ fn opaque_decimal() {
     let Ok(Value::Opaque(price)) = Value::deserialize(&doc) else { panic!("an opaque value") };
     assert_eq!(price.value_type(), NEWDECIMAL);
     assert_eq!(Decimal::read_packed(price.data_raw(), false).unwrap().to_string(), "12.34");
-    assert_eq!(walked(&doc, 1), (vec![[15, 0, 0, 0, 0, 3, 4, 246]], Ok(1)));
+    assert_eq!(walked(&doc, 1), (vec![[15, 0, 0, 0, 0, 3, 4, 246, 0]], Ok(1)));
     assert_eq!(refused("0F 15 00"), Refusal::Column);
     assert_eq!(refused("0F"), Refusal::Cut);
 }

@@ -421,8 +421,8 @@ def boundary_documents():
                 for stands in (b"\x0c", b"\x0f\xfc", b"\x0f\xf4"):
                     yield stands + length_field(length, needless) + b"x" * (length - cut)
     # As many items as an answer lists, and as many values as the longest list has room for.
-    for count in (1023, 1024, 1025, 2046, 2047, 2048):
-        for kind in range(4) if count < 2000 else (2, 3):
+    for count in (1023, 1024, 1025, 1818, 1819, 1820):
+        for kind in range(4) if count < 1800 else (2, 3):
             yield bytes((kind,)) + container(rng, plain, kind, [(b"%d" % at if kind < 2 else None, 5, b"\x00\x01") for at in range(count)])
     for depth in (98, 99, 100, 101, 102):
         for kind in range(4):

@@ -61,7 +61,7 @@ class Engine:
         if self.rust:
             theirs = rust_batch.finish()
             # The original's own tree is asked for where our list had room: it may hold more values than memory does.
-            walks = [at for at, request in enumerate(requests) if request.startswith("w 2048 ") and " refused 12 at " not in ours[at]]
+            walks = [at for at, request in enumerate(requests) if request.startswith("w 1820 ") and " refused 12 at " not in ours[at]]
             tree_batch = self.rust.begin(["j " + requests[at][7:] for at in walks])
             for request, mine, other in zip(requests, ours, theirs):
                 if mine == other or rules.bare(mine) == other:
@@ -101,7 +101,7 @@ class Engine:
                 code = event[:event.index(" ")]
                 found.codes[int(code)] += 1
                 if code == "15":
-                    found.columns[int(event[event.rindex(" ") + 1:])] += 1
+                    found.columns[int(event.split(" ")[7])] += 1
 
     def weigh(self, request, mine, other, walk=None):
         row = rules.explain(request, mine, other, walk)
@@ -112,7 +112,7 @@ class Engine:
 
     def manners(self, against, requests):
         """For shrinking: (manner, ours, theirs) of each request, None where the two agree or a row explains it."""
-        asked = ["w 2048 " + request[2:] if request.startswith("j ") else request for request in requests]
+        asked = ["w 1820 " + request[2:] if request.startswith("j ") else request for request in requests]
         other = self.second if against == "the second reader" else self.rust
         other_batch = other.begin(requests)
         ours = self.ours.begin(asked).finish()

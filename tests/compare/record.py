@@ -29,18 +29,18 @@ NUMBERS = tuple(range(2, 14)) + tuple(range(20, 27))
 LONG = 500  # characters: a longer request is taken only for what no shorter one showed
 
 PAPER = (
-    "w 2048 0202000a0004010005feff", "w 2 0202000a0004010005feff", "w 0 0202000a0004010005feff", "v 0202000a0004010005feff", "ie 2 1 2 10 0202000a0004010005feff",
-    "w 2048 00010011000b0001000c0c0061045a6fc3ab", "w 2048 00010011000b0001000c0c0061045a6fc322", "w 2048 00010011000a0001000c0c0061045a6fc3ab",
+    "w 1820 0202000a0004010005feff", "w 2 0202000a0004010005feff", "w 0 0202000a0004010005feff", "v 0202000a0004010005feff", "ie 2 1 2 10 0202000a0004010005feff",
+    "w 1820 00010011000b0001000c0c0061045a6fc3ab", "w 1820 00010011000b0001000c0c0061045a6fc322", "w 1820 00010011000a0001000c0c0061045a6fc3ab",
     "im 0 1 1 17 00010011000b0001000c0c0061045a6fc3ab", "ik 0 1 1 17 00010011000b0001000c0c0061045a6fc3ab", "im 0 1 1 17 00010011000a0001000c0c0061045a6fc3ab",
-    "w 2048 0202000c000c07000401004142", "e 2 1 2 12 0 0202000c000c07000401004142", "e 2 1 2 12 0 0202000c000c06000401004142",
+    "w 1820 0202000c000c07000401004142", "e 2 1 2 12 0 0202000c000c07000401004142", "e 2 1 2 12 0 0202000c000c06000401004142",
     "e 2 1 1 11 0 0201000b00070700ffffffff", "e 3 1 1 13 0 03010000000d00000007ffffffff",
-    "v 0200000400", "v 0200000500", "v 0201000400", "v 020000", "v 0401", "v 0403", "v 0d", "v -", "w 2048 -", "v 0c808080800f", "v 0c8080808010",
+    "v 0200000400", "v 0200000500", "v 0201000400", "v 020000", "v 0401", "v 0403", "v 0d", "v -", "w 1820 -", "v 0c808080800f", "v 0c8080808010",
     "p 1 040273dd", "p 1 04028c22", "r 2 0 1 e3", "r 2 0 1 e4", "r 2 0 1 7f", "r 2 0 0 7f",
     "t 303037", "t 2e35", "t 2e", "t " + "30" * 66, "t 2d" + "30" * 66, "c 010089 03008064", "c 010081 02018100", "c 01007f 010080", "s 0 0", "r 0 0 1 -",
     "r 0 0 0 -", "s 65 30", "s 66 0", "s 65 31", "o 1 0ff604040273dd", "o 0 0ff604040273dd", "o 1 0401", "u 5a6fc3ab", "u 5a6fc322",
-    "u ff", "u e282", "u eda080", "u 61c3", "u c3abff", "w 2048 0c01ff", "w 2048 0c02e282", "w 2048 0c02e282ac", "w 2048 0c03e28241", "w 2048 0201000a000c07000261ff",
-    "w 2048 0001000d000b000200040100c3ab", "w 2048 0001000d000b000200040100c322", "w 2048 0001000c000b000100040100c3ab",
-    "w 2048 0001000c000b000100040100ff", "v 0ff6020102", "w 2048 0ff6020102",
+    "u ff", "u e282", "u eda080", "u 61c3", "u c3abff", "w 1820 0c01ff", "w 1820 0c02e282", "w 1820 0c02e282ac", "w 1820 0c03e28241", "w 1820 0201000a000c07000261ff",
+    "w 1820 0001000d000b000200040100c3ab", "w 1820 0001000d000b000200040100c322", "w 1820 0001000c000b000100040100c3ab",
+    "w 1820 0001000c000b000100040100ff", "v 0ff6020102", "w 1820 0ff6020102",
     "r 2 1 1 7fff", "r 2 1 0 7fff", "r 2 1 1 7ffe", "p 1 01017f", "p 0 01017f", "o 1 0ff60402017fff", "o 0 0ff60402017fff", "c 02017fff 010080", "c 02017ffe 02017fff",
     "x 1 1 1 0 0 0 0 0 0 0 0 0 128", "x 1 1 0 0 0 0 0 0 0 0 0 0 128", "x 1 1 1 0 0 0 0 0 0 0 0 0 0", "x 1 1 1 0 100000000 0 0 0 0 0 0 0 128",
     "y 1 0 1 0 0 0 0 0 0 0 0 0 1 0 0 1 0 0 0 0 0 0 0 0", "y 1 0 0 1 0 0 0 0 0 0 0 0 1 0 1 0 0 0 0 0 0 0 0 0",
@@ -104,7 +104,7 @@ class Recorder:
         batch = self.original.begin(asked)
         mine = self.reader.begin(asked).finish()
         theirs = batch.finish()
-        walks = [at for at, request in enumerate(asked) if request.startswith("w 2048 ") and " refused 12 at " not in mine[at]]
+        walks = [at for at, request in enumerate(asked) if request.startswith("w 1820 ") and " refused 12 at " not in mine[at]]
         trees = self.original.ask(["j " + asked[at][7:] for at in walks])
         good = [agrees(request, a, b) for request, a, b in zip(asked, mine, theirs)]
         self.refused += [(request, a, b) for request, a, b, fine in zip(asked, mine, theirs, good) if not fine]
@@ -164,8 +164,8 @@ def main():
     original = programs.Program("the original", shlex.split(chosen.original) if chosen.original else differential.rust_command(chosen.source))
     reader = programs.Program("the second reader", shlex.split(chosen.reader) if chosen.reader else differential.second_command())
     recorder = Recorder(original, reader, chosen.count)
-    recorder.all_of(list(PAPER) + ["w 2048 " + doc.hex() for doc in deep_documents()])
-    recorder.all_of(["%s%02x0161" % (front, column) for column in documents.COLUMNS for front in ("v 0f", "w 2048 0201000a000f0700")])
+    recorder.all_of(list(PAPER) + ["w 1820 " + doc.hex() for doc in deep_documents()])
+    recorder.all_of(["%s%02x0161" % (front, column) for column in documents.COLUMNS for front in ("v 0f", "w 1820 0201000a000f0700")])
     recorder.all_of(["v %02x" % code for code in documents.CODES + (13, 14, 16, 255)] + ["v 0f%02x0161" % column for column in (21, 127, 241, 244)])
     recorder.all_of([line for line in requests.odd_lines(random.Random(0)) if len(line) < 200])
     # All that the tasks ask, with a quota that grows until enough lines are taken.

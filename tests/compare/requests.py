@@ -8,7 +8,7 @@ import documents
 import rules
 
 BLOCK = 1000  # documents or decimals of one task
-ROOM = 2048
+ROOM = 1820
 
 
 def hexed(data):
@@ -111,7 +111,7 @@ def view_requests(rng, doc, root, walk):
     words = root.split(" ")
     if words[0] == "container":
         views.append(tuple(map(int, words[1:5])))
-    others = [(code, start, extra, size) for code, level, _, _, _, start, size, extra in rules.events(walk)[0] if code <= 3 and level > 0]
+    others = [(code, start, extra, size) for code, level, _, _, _, start, size, extra, _ in rules.events(walk)[0] if code <= 3 and level > 0]
     if others:
         views.append(rng.choice(others))
     asked = []
@@ -243,7 +243,7 @@ def record_requests(rng, count):
 
 def odd_lines(rng):
     """Lines that are no request, and lines at the longest that is taken."""
-    yield from ("", " ", "z", "v", "w", "v  0c00", "v 0c00 ", " v 0c00", "v 0", "v 0g", "v 0c0", "w 2049 0402", "w 2048 0402", "w 0 0402", "w 0402", "w x 0402",
+    yield from ("", " ", "z", "v", "w", "v  0c00", "v 0c00 ", " v 0c00", "v 0", "v 0g", "v 0c0", "w 1821 0402", "w 1820 0402", "w 0 0402", "w 0402", "w x 0402",
                 "w -1 0402", "w 4294967296 0402", "v 0402 00", "v --", "v -", "V 0402", "v 0C0141", "v 0c0141", "ie 4 1 0 4 0200000400", "ie 2 1 0 4 0200000400",
                 "ie 2 1 0 0200000400", "n 2 1 0 4 0200000400", "n 2 1 0 4 0 0200000400", "e 2 1 0 4 0200000400", "e 2 1 0 4 0 0200000400",
                 "e 2 1 0 4 4294967295 0200000400", "e 2 1 0 4 4294967296 0200000400", "e 2 4294967296 0 4 0 0200000400", "k 2 1 0 4 0 0200000400", "r 4 2 2 8c22",

@@ -41,26 +41,30 @@ def events(answer):
 
 def tree(listed, doc):
     """The events of a whole walk as the text of the original's parsed tree."""
-    text, after = branch(listed, 0, doc)
+    text, after = branch(listed, 0, doc, 0)
     if after != len(listed):
         return "events beyond the tree"
     return text
 
 
-def branch(listed, at, doc):
-    code, _, _, _, _, start, length, extra = listed[at]
+def branch(listed, at, doc, home):
+    """The text of the value of event `at`, whose container's event must be `home`, and the index of the event behind all below it."""
+    code, _, _, _, _, start, length, extra, parent = listed[at]
+    if parent != home:
+        raise ValueError("another container")
+    home = at
     at += 1
     if code <= 3:
         if code >= 2:
             texts = []
             for _ in range(extra):
-                text, at = branch(listed, at, doc)
+                text, at = branch(listed, at, doc, home)
                 texts.append(text)
             return "[" + ",".join(texts) + "]", at
         members = {}
         for _ in range(extra):
             key = doc[listed[at][3]:listed[at][3] + listed[at][4]]
-            text, at = branch(listed, at, doc)
+            text, at = branch(listed, at, doc, home)
             members[key] = text
         return "{" + ",".join(key.hex() + "=" + members[key] for key in sorted(members)) + "}", at
     data = doc[start:start + length]
@@ -187,7 +191,7 @@ def key_text(words, ours, theirs, walk):
 def broken_key(doc, walk):
     """Whether a walk's refusal is where a key breaks, in one of the objects that it listed."""
     listed, (_, place) = events(walk)
-    for code, _, _, _, _, start, _, count in listed:
+    for code, _, _, _, _, start, _, count, _ in listed:
         if code > 1:
             continue
         width = 4 if code == 1 else 2
@@ -214,7 +218,7 @@ def turned(words, ours, theirs, walk):
     if words[0] != "j" or not (theirs in FAILED or theirs == "refused" and refusal(ours) is None):
         return False
     doc = unhex(words[1])
-    for code, _, _, _, _, start, length, column in events(walk)[0]:
+    for code, _, _, _, _, start, length, column, _ in events(walk)[0]:
         if code == 15 and column in TURNED:
             if column == 246 and decimals.printed(doc[start:start + length]) is None:
                 return True

@@ -58,6 +58,23 @@ static int sorts(const char *const *texts, const char *const *want, size_t count
     return same;
 }
 
+/* Whether as many steps as its depth lead from each event to the root, each to an event before it with a depth one less. */
+static int all_climb(const uint32_t *events, uint32_t count) {
+    uint32_t i, at, up, depth;
+    for (i = 0; i < count; i++) {
+        at = i;
+        for (depth = events[BRATTHELM_EVENT_LEN * i + 1]; depth > 0; depth--) {
+            up = events[BRATTHELM_EVENT_LEN * at + 8];
+            if (up >= at || events[BRATTHELM_EVENT_LEN * up + 1] != depth - 1)
+                return 0;
+            at = up;
+        }
+        if (at != 0)
+            return 0;
+    }
+    return 1;
+}
+
 #define ROW(...) (const uint32_t[]){__VA_ARGS__}, sizeof((const uint32_t[]){__VA_ARGS__}) / sizeof(uint32_t)
 #define NONE (const uint32_t[]){0}, 0
 
@@ -65,13 +82,16 @@ int main(void) {
     static const uint8_t list[] = {0x02, 0x02, 0x00, 0x0A, 0x00, 0x04, 0x01, 0x00, 0x05, 0xFE, 0xFF};
     static const uint8_t zoe[] = {0x00, 0x01, 0x00, 0x11, 0x00, 0x0B, 0x00, 0x01, 0x00, 0x0C, 0x0C, 0x00, 0x61, 0x04, 0x5A, 0x6F, 0xC3, 0xAB};
     static const uint8_t cut[] = {0x00, 0x01, 0x00, 0x11, 0x00, 0x0B, 0x00, 0x01, 0x00, 0x0C, 0x0C, 0x00, 0x61, 0x04, 0x5A, 0x6F, 0xC3, 0x22};
+    /* an empty array, and true inside two arrays, in an array */
+    static const uint8_t deep[] = {0x02, 0x02, 0x00, 0x1C, 0x00, 0x02, 0x0A, 0x00, 0x02, 0x0E, 0x00, 0x00, 0x00, 0x04, 0x00,
+                                   0x01, 0x00, 0x0E, 0x00, 0x02, 0x07, 0x00, 0x01, 0x00, 0x07, 0x00, 0x04, 0x01, 0x00};
     static const uint8_t small[] = {0x02, 0x01, 0x00, 0x0B, 0x00, 0x07, 0x07, 0x00, 0xFF, 0xFF, 0xFF, 0xFF};
     static const uint8_t half[] = {0x0B, 0x00, 0x00, 0x00, 0x00, 0x00, 0x00, 0xF8, 0x3F};
     static const uint8_t truth[] = {0x04, 0x01}, literal[] = {0x04, 0x03}, unknown[] = {0x0D};
     static const uint8_t minus[] = {0x04, 0x02, 0x73, 0xDD}, plus[] = {0x04, 0x02, 0x8C, 0x22};
     static const uint8_t ninety_nine[] = {0xE3}, too_large[] = {0xE4}, nought[] = {0x7F};
-    uint32_t events[24], nine[12], hundred[12], d[12];
-    uint8_t bytes[BRATTHELM_BYTES_MAX], text[BRATTHELM_TEXT_MAX];
+    uint32_t events[3 * BRATTHELM_EVENT_LEN], tree[5 * BRATTHELM_EVENT_LEN], nine[12], hundred[12], d[12];
+    uint8_t bytes[BRATTHELM_BYTES_MAX], text[BRATTHELM_TEXT_MAX], spoilt[sizeof deep];
     uint32_t r;
     size_t i;
 
@@ -103,17 +123,31 @@ int main(void) {
     expect("count, nothing lent", bratthelm_element_count(list, sizeof list, 2, 1, 10, 2, fresh(), 0), BRATTHELM_ERR_ROOM, row, NONE);
 
     /* the walk */
-    for (i = 0; i < 24; i++)
+    for (i = 0; i < 27; i++)
         events[i] = 7;
-    expect("walk, one number lent", bratthelm_walk(list, sizeof list, events, 24, fresh(), 1), BRATTHELM_ERR_ROOM, row, NONE);
+    expect("walk, one number lent", bratthelm_walk(list, sizeof list, events, 27, fresh(), 1), BRATTHELM_ERR_ROOM, row, NONE);
     check("no event is written", events[0] == 7);
-    expect("walk, room for two", bratthelm_walk(list, sizeof list, events, 23, fresh(), 16), BRATTHELM_ERR_EVENTS, row, ROW(2, 8));
-    check("the third event's place is as it was", events[16] == 7 && events[23] == 7);
-    expect("walk of the list", bratthelm_walk(list, sizeof list, events, 24, fresh(), 16), 0, row, ROW(3, 0));
-    for (i = 0; i < 24; i++)
-        printf("%u%s", (unsigned)events[i], i % 8 == 7 ? "\n" : " ");
-    check("its events", memcmp(events, (const uint32_t[]){2, 0, 0, 0, 0, 1, 10, 2, 4, 1, 0, 0, 0, 6, 1, 0, 5, 1, 1, 0, 0, 9, 2, 0}, sizeof events) == 0);
-    expect("walk of Zoë, cut inside a character", bratthelm_walk(cut, sizeof cut, events, 24, fresh(), 16), BRATTHELM_ERR_UTF8, row, ROW(1, 17));
+    expect("walk, room for two", bratthelm_walk(list, sizeof list, events, 26, fresh(), 16), BRATTHELM_ERR_EVENTS, row, ROW(2, 8));
+    check("the third event's place is as it was", events[18] == 7 && events[26] == 7);
+    expect("walk of the list", bratthelm_walk(list, sizeof list, events, 27, fresh(), 16), 0, row, ROW(3, 0));
+    for (i = 0; i < 27; i++)
+        printf("%u%s", (unsigned)events[i], i % 9 == 8 ? "\n" : " ");
+    check("its events", memcmp(events, (const uint32_t[]){2, 0, 0, 0, 0, 1, 10, 2, 0, 4, 1, 0, 0, 0, 6, 1, 0, 0, 5, 1, 1, 0, 0, 9, 2, 0, 0}, sizeof events) == 0);
+    expect("walk of Zoë, cut inside a character", bratthelm_walk(cut, sizeof cut, events, 27, fresh(), 16), BRATTHELM_ERR_UTF8, row, ROW(1, 17));
+
+    /* from an event to the root */
+    expect("walk of arrays in arrays", bratthelm_walk(deep, sizeof deep, tree, 45, fresh(), 16), 0, row, ROW(5, 0));
+    check("true is event 4, at depth 3", tree[9 * 4] == 4 && tree[9 * 4 + 1] == 3);
+    check("from it to events 3, 2 and 0", tree[9 * 4 + 8] == 3 && tree[9 * 3 + 8] == 2 && tree[9 * 2 + 8] == 0);
+    check("the empty array is in the root, and the root's number is 0", tree[9 * 1 + 8] == 0 && tree[8] == 0);
+    check("each event climbs to the root", all_climb(tree, 5));
+    memcpy(spoilt, deep, sizeof deep);
+    spoilt[27] = 3;
+    for (i = 0; i < 45; i++)
+        tree[i] = 7;
+    expect("walk of arrays in arrays, an unknown literal", bratthelm_walk(spoilt, sizeof spoilt, tree, 45, fresh(), 16), BRATTHELM_ERR_LITERAL, row, ROW(4, 26));
+    check("each event before it climbs to the root", tree[9 * 3 + 8] == 2 && all_climb(tree, 4));
+    check("the next event's place is as it was", tree[9 * 4] == 7 && tree[9 * 4 + 8] == 7);
 
     /* decimals */
     expect("packed -12.34", bratthelm_decimal_read_packed(minus, sizeof minus, 0, fresh(), 16), 0, row, ROW(2, 2, 1, 12, 340000000, 0, 0, 0, 0, 0, 0, 0));

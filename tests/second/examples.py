@@ -6,6 +6,7 @@ answers worked out by hand from the rules. Part 3: answers computed here by othe
 means: an encoder of documents, Python's own decimal numbers, RFC 3629's grammar.
 Request W2 of the project overrides document 01 on negative zero: zero read from bytes
 is positive, and a record with a sign on zero is refused, 26. All parts follow W2.
+By request W6 an event has a ninth number, the index of its container's event.
 Prints how many agree, and each that does not. Ends with 1 if any differs.
 """
 
@@ -74,10 +75,11 @@ def nested_answer(count):
     """What the walk says of nested_arrays(count)."""
     events = []
     for depth in range(min(count, 101)):
-        events.append("2 %d 0 0 0 %d %d 1" % (depth, 1 + 7 * depth, 7 * (count - depth)))
+        # One event for each depth: the container's event is the one before.
+        events.append("2 %d 0 0 0 %d %d 1 %d" % (depth, 1 + 7 * depth, 7 * (count - depth), max(depth, 1) - 1))
     last = 1 + 7 * (count - 1) + 4
     if count <= 100:
-        events.append("4 %d 0 0 0 %d 1 0" % (count, last + 1))
+        events.append("4 %d 0 0 0 %d 1 0 %d" % (count, last + 1, count - 1))
     line = " / ".join(["%d" % len(events)] + events)
     return line if count <= 100 else line + " refused 11 at %d" % (1 + 7 * 100 + 4)
 
@@ -92,18 +94,18 @@ def examples():
         cases.append((head + " " + plain(document) if head else request, expected))
 
     first = "02 02 00 0A 00 04 01 00 05 FE FF"
-    two = "2 0 0 0 0 1 10 2 / 4 1 0 0 0 6 1 0"
-    add("w 2048 : " + first, "3 / " + two + " / 5 1 1 0 0 9 2 0")
+    two = "2 0 0 0 0 1 10 2 0 / 4 1 0 0 0 6 1 0 0"
+    add("w 1820 : " + first, "3 / " + two + " / 5 1 1 0 0 9 2 0 0")
     add("w 2 : " + first, "2 / " + two + " refused 12 at 8")
-    add("w 2048 : " + nested_arrays(100).hex(), nested_answer(100))
-    add("w 2048 : " + nested_arrays(101).hex(), nested_answer(101))
+    add("w 1820 : " + nested_arrays(100).hex(), nested_answer(100))
+    add("w 1820 : " + nested_arrays(101).hex(), nested_answer(101))
 
     zoe = "00 01 00 11 00 0B 00 01 00 0C 0C 00 61 04 5A 6F C3 AB"
-    root = "1 / 0 0 0 0 0 1 17 1"
-    add("w 2048 : " + zoe, "2" + root[1:] + " / 12 1 0 12 1 14 4 0")
+    root = "1 / 0 0 0 0 0 1 17 1 0"
+    add("w 1820 : " + zoe, "2" + root[1:] + " / 12 1 0 12 1 14 4 0 0")
     add("im 0 1 1 17 : " + zoe, "key 12 1 = scalar 12 string 14 4 ; nothing")
-    add("w 2048 : " + zoe[:-2] + "22", root + " refused 9 at 17")
-    add("w 2048 : " + zoe.replace("0B 00", "0A 00"), root + " refused 5 at 5")
+    add("w 1820 : " + zoe[:-2] + "22", root + " refused 9 at 17")
+    add("w 1820 : " + zoe.replace("0B 00", "0A 00"), root + " refused 5 at 5")
 
     shared = "02 02 00 0C 00 0C 07 00 04 01 00 41 42"
     add("e 2 1 2 12 0 : " + shared, "scalar 12 string 9 4")
@@ -141,7 +143,7 @@ def examples():
     add("c 010089 03008064", "less")
     add("y 1 0 0 9 0 0 0 0 0 0 0 0 3 0 0 100 0 0 0 0 0 0 0 0", "less")
     # Figures that stand in the rules themselves.
-    add("w 2048 -", "1 / 4 0 0 0 0 0 0 0")
+    add("w 1820 -", "1 / 4 0 0 0 0 0 0 0 0")
     add("v -", "scalar 4 null")
     add("r 0 0 1 -", "1 0 + 0 80")
     add("y 1 0 0 1 0 0 0 0 0 0 0 0 1 1 0 1 0 0 0 0 0 0 0 0", "equal")
@@ -225,7 +227,7 @@ def edges():
         add("v 0f%02x0161" % column_type,
             "scalar 15 opaque %d 3 1" % column_type if known else "refused 10")
         add("w 1 0f%02x01ff" % column_type,
-            "1 / 15 0 0 0 0 3 1 %d" % column_type if known else "0 refused 10 at 0")
+            "1 / 15 0 0 0 0 3 1 %d 0" % column_type if known else "0 refused 10 at 0")
     add("v 0ff600", "scalar 15 opaque 246 3 0")
     add("v 0ff68080808080", "refused 8")
     add("v 0ff60261", "refused 3")
@@ -254,8 +256,8 @@ def edges():
     add("v : 03 01000000 0c000000 04 00000000", "refused 4")
     add("v : 01 01000000 13000000 13000000 0000 04 00000000", "container 1 1 1 19")
     add("v : 01 01000000 12000000 13000000 0000 04 00000000", "refused 4")
-    add("w 1 0200000400", "1 / 2 0 0 0 0 1 4 0")
-    add("w 1 0000000400", "1 / 0 0 0 0 0 1 4 0")
+    add("w 1 0200000400", "1 / 2 0 0 0 0 1 4 0 0")
+    add("w 1 0000000400", "1 / 0 0 0 0 0 1 4 0 0")
     add("w 0 0200000400", "0 refused 12 at 0")
 
     # Views: 13 before nothing; the wrong kind; start 0.
@@ -302,18 +304,18 @@ def edges():
     add("k 0 1 1 11 0 " + one_member(12, 0, size=11) + "61", "refused 5")
     add("k 0 1 1 12 0 " + one_member(12, 0, tail="61"), "key 13 0")
     add("k 0 1 1 12 0 " + one_member(11, 1, tail="ff"), "key 12 1")
-    add("w 9 " + one_member(11, 0), "2 / 0 0 0 0 0 1 11 1 / 4 1 0 12 0 10 1 0")
-    add("w 9 " + one_member(11, 1, tail="ff"), "1 / 0 0 0 0 0 1 12 1 refused 9 at 12")
-    add("w 9 " + one_member(11, 1, "0d0000", "ff"), "1 / 0 0 0 0 0 1 12 1 refused 9 at 12")
-    add("w 9 " + one_member(11, 2, "0d0000", "ff"), "1 / 0 0 0 0 0 1 12 1 refused 5 at 5")
-    add("w 9 " + one_member(11, 1, "0d0000", "61"), "1 / 0 0 0 0 0 1 12 1 refused 2 at 9")
-    add("w 1 " + one_member(11, 1, "0d0000", "61"), "1 / 0 0 0 0 0 1 12 1 refused 2 at 9")
-    add("w 1 " + one_member(11, 1, "040000", "61"), "1 / 0 0 0 0 0 1 12 1 refused 12 at 9")
-    add("w 1 " + one_member(11, 1, "040000", "ff"), "1 / 0 0 0 0 0 1 12 1 refused 9 at 12")
-    add("w 9 " + one_member(11, 1, "040300", "61"), "1 / 0 0 0 0 0 1 12 1 refused 7 at 9")
+    add("w 9 " + one_member(11, 0), "2 / 0 0 0 0 0 1 11 1 0 / 4 1 0 12 0 10 1 0 0")
+    add("w 9 " + one_member(11, 1, tail="ff"), "1 / 0 0 0 0 0 1 12 1 0 refused 9 at 12")
+    add("w 9 " + one_member(11, 1, "0d0000", "ff"), "1 / 0 0 0 0 0 1 12 1 0 refused 9 at 12")
+    add("w 9 " + one_member(11, 2, "0d0000", "ff"), "1 / 0 0 0 0 0 1 12 1 0 refused 5 at 5")
+    add("w 9 " + one_member(11, 1, "0d0000", "61"), "1 / 0 0 0 0 0 1 12 1 0 refused 2 at 9")
+    add("w 1 " + one_member(11, 1, "0d0000", "61"), "1 / 0 0 0 0 0 1 12 1 0 refused 2 at 9")
+    add("w 1 " + one_member(11, 1, "040000", "61"), "1 / 0 0 0 0 0 1 12 1 0 refused 12 at 9")
+    add("w 1 " + one_member(11, 1, "040000", "ff"), "1 / 0 0 0 0 0 1 12 1 0 refused 9 at 12")
+    add("w 9 " + one_member(11, 1, "040300", "61"), "1 / 0 0 0 0 0 1 12 1 0 refused 7 at 9")
     # Key and value share their bytes; the value's length byte may be a key too.
-    add("w 9 " + one_member(12, 1, "0c0b00", "0161"), "2 / 0 0 0 0 0 1 13 1 / 12 1 0 13 1 13 1 0")
-    add("w 9 " + one_member(11, 2, "0c0b00", "0161"), "2 / 0 0 0 0 0 1 13 1 / 12 1 0 12 2 13 1 0")
+    add("w 9 " + one_member(12, 1, "0c0b00", "0161"), "2 / 0 0 0 0 0 1 13 1 0 / 12 1 0 13 1 13 1 0 0")
+    add("w 9 " + one_member(11, 2, "0c0b00", "0161"), "2 / 0 0 0 0 0 1 13 1 0 / 12 1 0 12 2 13 1 0 0")
     # A key stays faulty before its value; the value alone can still be had.
     add("im 0 1 1 11 " + one_member(0, 0, "0d0000"), "refused 5 ; nothing")
     add("im 0 1 1 11 " + one_member(11, 0, "0d0000"), "refused 2 ; nothing")
@@ -324,13 +326,13 @@ def edges():
     # Large object: key entry of six bytes, value entry of five.
     large = "01 01000000 17000000 13000000 0100 08 feffffff 61 62 63 64"
     add("im 1 1 1 23 : " + large, "key 20 1 = scalar 8 uint 4294967294 ; nothing")
-    add("w 9 : " + large, "2 / 1 0 0 0 0 1 23 1 / 8 1 0 20 1 16 4 0")
+    add("w 9 : " + large, "2 / 1 0 0 0 0 1 23 1 0 / 8 1 0 20 1 16 4 0 0")
     add("k 1 1 1 23 0 : " + large.replace("13000000 0100", "16000000 0200"), "refused 5")
     add("k 1 1 1 23 0 : " + large.replace("13000000 0100", "16000000 0100"), "key 23 1")
     add("k 1 1 1 23 0 : " + large.replace("13000000 0100", "ffffffff ffff"), "refused 5")
     # Duplicate keys are all listed.
     twice = "00 0200 1300 1200 0100 1200 0100 04 0100 04 0200 61"
-    add("w 9 : " + twice, "3 / 0 0 0 0 0 1 19 2 / 4 1 0 19 1 14 1 0 / 4 1 1 19 1 17 1 0")
+    add("w 9 : " + twice, "3 / 0 0 0 0 0 1 19 2 0 / 4 1 0 19 1 14 1 0 0 / 4 1 1 19 1 17 1 0 0")
     add("im 0 1 2 19 : " + twice, "key 19 1 = scalar 4 true ; key 19 1 = scalar 4 false ; nothing")
     # First member's value may point into the second's entry, the second's may not.
     add("e 0 1 2 19 0 : 00 0200 1300 1200 0100 1200 0100 05 0100 04 0200 61", "scalar 5 int 1")
@@ -373,8 +375,8 @@ def edges():
     add("e 2 1 1 15 0 " + one_element(3, 7, "00000000 08000000"), "container 3 8 0 8")
     add("e 2 1 1 11 0 " + one_element(2, 11, "00000400"), "refused 3")
     add("e 2 1 1 11 0 " + one_element(2, 12, "00000400"), "refused 6")
-    add("w 9 " + one_element(2, 7, "0000050000", 11), "1 / 2 0 0 0 0 1 11 1 refused 4 at 5")
-    add("w 9 " + one_element(2, 7, "00000400"), "2 / 2 0 0 0 0 1 11 1 / 2 1 0 0 0 8 4 0")
+    add("w 9 " + one_element(2, 7, "0000050000", 11), "1 / 2 0 0 0 0 1 11 1 0 refused 4 at 5")
+    add("w 9 " + one_element(2, 7, "00000400"), "2 / 2 0 0 0 0 1 11 1 0 / 2 1 0 0 0 8 4 0 0")
     # Values in the entry, spare bytes not read.
     add("e 2 1 1 7 0 " + one_element(4, 1, "")[:-2] + "ff", "scalar 4 true")
     add("e 2 1 1 7 0 : 02 0100 0700 04 03ff", "refused 7")
@@ -388,8 +390,8 @@ def edges():
     add("e 3 1 1 13 0 : 03 01000000 0d000000 09 0c000000", "refused 6")
     add("e 3 1 1 13 0 : 03 01000000 0d000000 09 0e000000", "refused 6")
     add("e 3 1 1 13 0 : 03 01000000 0d000000 0c ffffffff", "refused 6")
-    add("w 9 : 03 01000000 0d000000 05 feffaabb", "2 / 3 0 0 0 0 1 13 1 / 5 1 0 0 0 10 2 0")
-    add("w 9 : 03 01000000 0d000000 07 feffffff", "2 / 3 0 0 0 0 1 13 1 / 7 1 0 0 0 10 4 0")
+    add("w 9 : 03 01000000 0d000000 05 feffaabb", "2 / 3 0 0 0 0 1 13 1 0 / 5 1 0 0 0 10 2 0 0")
+    add("w 9 : 03 01000000 0d000000 07 feffffff", "2 / 3 0 0 0 0 1 13 1 0 / 7 1 0 0 0 10 4 0 0")
     # Into the header: the first may point at the second's entry, the second not at itself.
     add("e 2 1 2 11 0 : 02 0200 0b00 0c 0700 00 0a00 00", "scalar 12 string 9 0")
     add("e 2 1 2 11 1 : 02 0200 0b00 0c 0700 0c 0a00 00", "scalar 12 string 12 0")
@@ -401,16 +403,16 @@ def edges():
     add("e 2 1 3 13 0 : 02 0300 0d00 02 0900 04 0000 04 0000", "refused 4")
     add("e 2 1 3 13 0 : 02 0300 0d00 02 0a00 04 0000 04 0000", "refused 3")
     add("w 9 : 02 0300 0d00 02 0700 00 0004 00 0000",
-        "2 / 2 0 0 0 0 1 13 3 / 2 1 0 0 0 8 4 0 refused 6 at 8")
+        "2 / 2 0 0 0 0 1 13 3 0 / 2 1 0 0 0 8 4 0 0 refused 6 at 8")
     # Two elements at one place: its bytes are listed twice.
     add("w 9 : 02 0200 0c00 0c 0a00 0c 0a00 01 61",
-        "3 / 2 0 0 0 0 1 12 2 / 12 1 0 0 0 12 1 0 / 12 1 1 0 0 12 1 0")
+        "3 / 2 0 0 0 0 1 12 2 0 / 12 1 0 0 0 12 1 0 0 / 12 1 1 0 0 12 1 0 0")
     # Iteration: a faulty item and then the next.
     add("ie 2 1 2 10 : 02 0200 0a00 0d 0000 04 0100", "refused 2 ; scalar 4 true ; nothing")
     add("ie 2 1 2 10 : 02 0200 0a00 04 0100 04 0300", "scalar 4 true ; refused 7 ; nothing")
-    add("w 9 : 02 0200 0a00 0d 0000 04 0100", "1 / 2 0 0 0 0 1 10 2 refused 2 at 5")
+    add("w 9 : 02 0200 0a00 0d 0000 04 0100", "1 / 2 0 0 0 0 1 10 2 0 refused 2 at 5")
     add("w 9 : 02 0200 0a00 04 0100 04 0300",
-        "2 / 2 0 0 0 0 1 10 2 / 4 1 0 0 0 6 1 0 refused 7 at 8")
+        "2 / 2 0 0 0 0 1 10 2 0 / 4 1 0 0 0 6 1 0 0 refused 7 at 8")
     for count in (1023, 1024, 1025, 1026):
         size = 4 + 3 * count
         document = "02" + count.to_bytes(2, "little").hex() + size.to_bytes(2, "little").hex()
@@ -436,17 +438,17 @@ def edges():
     add("w 0 0c01ff", "0 refused 9 at 2")
     add("w 1 0c01ff", "0 refused 9 at 2")
     add("v 0c01ff", "scalar 12 string 2 1")
-    add("w 1 0c0161", "1 / 12 0 0 0 0 2 1 0")
-    add("w 1 0401", "1 / 4 0 0 0 0 1 1 0")
+    add("w 1 0c0161", "1 / 12 0 0 0 0 2 1 0 0")
+    add("w 1 0401", "1 / 4 0 0 0 0 1 1 0 0")
     first = "0202000a0004010005feff"
     add("w 0 " + first, "0 refused 12 at 0")
-    add("w 1 " + first, "1 / 2 0 0 0 0 1 10 2 refused 12 at 5")
-    add("w 3 " + first, "3 / 2 0 0 0 0 1 10 2 / 4 1 0 0 0 6 1 0 / 5 1 1 0 0 9 2 0")
-    add("w 1 : 02 0200 0a00 04 0300 04 0100", "1 / 2 0 0 0 0 1 10 2 refused 7 at 5")
-    add("w 1 " + one_element(12, 7, "01ff"), "1 / 2 0 0 0 0 1 9 1 refused 9 at 9")
-    add("w 2048 " + nested_arrays(1).hex(), nested_answer(1))
-    add("w 2048 " + nested_arrays(99).hex(), nested_answer(99))
-    add("w 2048 " + nested_arrays(102).hex(), nested_answer(102))
+    add("w 1 " + first, "1 / 2 0 0 0 0 1 10 2 0 refused 12 at 5")
+    add("w 3 " + first, "3 / 2 0 0 0 0 1 10 2 0 / 4 1 0 0 0 6 1 0 0 / 5 1 1 0 0 9 2 0 0")
+    add("w 1 : 02 0200 0a00 04 0300 04 0100", "1 / 2 0 0 0 0 1 10 2 0 refused 7 at 5")
+    add("w 1 " + one_element(12, 7, "01ff"), "1 / 2 0 0 0 0 1 9 1 0 refused 9 at 9")
+    add("w 1820 " + nested_arrays(1).hex(), nested_answer(1))
+    add("w 1820 " + nested_arrays(99).hex(), nested_answer(99))
+    add("w 1820 " + nested_arrays(102).hex(), nested_answer(102))
     add("w 101 " + nested_arrays(101).hex(), nested_answer(101))
     add("w 101 " + nested_arrays(100).hex(), nested_answer(100))
     hundred = nested_answer(100).split(" / ")
@@ -457,18 +459,46 @@ def edges():
         body = bytes.fromhex("00000400")
         for _ in range(outer):
             body = b"\x01\x00" + (len(body) + 7).to_bytes(2, "little") + b"\x02\x07\x00" + body
-        said = ["2 %d 0 0 0 %d %d %d" % (depth, 1 + 7 * depth, 4 + 7 * (outer - depth), depth < outer)
+        said = ["2 %d 0 0 0 %d %d %d %d" % (depth, 1 + 7 * depth, 4 + 7 * (outer - depth), depth < outer, max(depth, 1) - 1)
                 for depth in range(101)]
         line = " / ".join(["101"] + said)
-        add("w 2048 02" + body.hex(), line if outer == 100 else line + " refused 11 at 705")
+        add("w 1820 02" + body.hex(), line if outer == 100 else line + " refused 11 at 705")
     # At depth 101 inside an object: 11 at the value entry, before the bad key.
     body = bytes.fromhex("01000b00" "00000900" "0d0000")
     for level in range(100):
         code = b"\x00" if level == 0 else b"\x02"
         body = b"\x01\x00" + (len(body) + 7).to_bytes(2, "little") + code + b"\x07\x00" + body
-    said = ["%d %d 0 0 0 %d %d 1" % (0 if depth == 100 else 2, depth, 1 + 7 * depth, len(body) - 7 * depth)
+    said = ["%d %d 0 0 0 %d %d 1 %d" % (0 if depth == 100 else 2, depth, 1 + 7 * depth, len(body) - 7 * depth, max(depth, 1) - 1)
             for depth in range(101)]
-    add("w 2048 02" + body.hex(), " / ".join(["101"] + said) + " refused 11 at 709")
+    add("w 1820 02" + body.hex(), " / ".join(["101"] + said) + " refused 11 at 709")
+
+    # Request W6: the container's index, where it is not the root's. Two arrays in an array, of two elements and of one.
+    arrays = "02 0200 1b00 02 0a00 02 1400 0200 0a00 04 0000 04 0100 0100 0700 04 0200"
+    four = " / 2 0 0 0 0 1 27 2 0 / 2 1 0 0 0 11 10 2 0 / 4 2 0 0 0 16 1 0 1 / 4 2 1 0 0 19 1 0 1"
+    five = four + " / 2 1 1 0 0 21 7 1 0"
+    add("w 9 : " + arrays, "6" + five + " / 4 2 0 0 0 26 1 0 4")
+    # What was listed before a refusal keeps its containers: a bad literal, a bad type, no room.
+    add("w 9 : " + arrays[:-4] + "0300", "5" + five + " refused 7 at 25")
+    add("w 9 : " + arrays.replace("02 1400", "0d 1400"), "4" + four + " refused 2 at 8")
+    add("w 5 : " + arrays, "5" + five + " refused 12 at 25")
+    add("w 4 : " + arrays, "4" + four + " refused 12 at 8")
+    # After a member that is an array its sibling's container is the object again.
+    sibling = "00 0200 1e00 1200 0100 1300 0100 02 1400 04 0100 61 62 0200 0a00 04 0000 04 0000"
+    four = " / 0 0 0 0 0 1 30 2 0 / 2 1 0 19 1 21 10 2 0 / 4 2 0 0 0 26 1 0 1 / 4 2 1 0 0 29 1 0 1"
+    add("w 9 : " + sibling, "5" + four + " / 4 1 1 20 1 17 1 0 0")
+    add("w 9 : " + sibling.replace("04 0100 61", "04 0300 61"), "4" + four + " refused 7 at 16")
+    # An empty array contains nothing, so that what follows it has another container.
+    add("w 9 : 02 0200 1c00 02 0a00 02 0e00 0000 0400 0100 0e00 02 0700 0100 0700 04 0100",
+        "5 / 2 0 0 0 0 1 28 2 0 / 2 1 0 0 0 11 4 0 0 / 2 1 1 0 0 15 14 1 0 / 2 2 0 0 0 22 7 1 2 / 4 3 0 0 0 27 1 0 3")
+    # Two elements at one place: the array there is listed twice, and each listing has its own element.
+    add("w 9 : 02 0200 1100 02 0a00 02 0a00 0100 0700 04 0100",
+        "5 / 2 0 0 0 0 1 17 2 0 / 2 1 0 0 0 11 7 1 0 / 4 2 0 0 0 16 1 0 1 / 2 1 1 0 0 11 7 1 0 / 4 2 0 0 0 16 1 0 3")
+    # As many events as a request may have room for, and one more.
+    for count in (1819, 1820):
+        document = "02" + count.to_bytes(2, "little").hex() + (4 + 3 * count).to_bytes(2, "little").hex() + "040000" * count
+        said = ["2 0 0 0 0 1 %d %d 0" % (4 + 3 * count, count)] + ["4 1 %d 0 0 %d 1 0 0" % (at, 6 + 3 * at) for at in range(1819)]
+        line = " / ".join(["1820"] + said)
+        add("w 1820 " + document, line if count == 1819 else line + " refused 12 at %d" % (5 + 3 * 1819))
 
     # The UTF-8 test.
     for good in ("", "00", "7f", "c280", "dfbf", "e0a080", "ed9fbf", "ee8080", "efbfbf", "f0908080", "f48fbfbf"):
@@ -481,7 +511,7 @@ def edges():
     add("w 1 0c02e282", "0 refused 9 at 4")
     add("w 1 0c02e282ac", "0 refused 9 at 4")
     add("w 1 0c03e28241", "0 refused 9 at 4")
-    add("w 1 0c03e282ac", "1 / 12 0 0 0 0 2 3 0")
+    add("w 1 0c03e282ac", "1 / 12 0 0 0 0 2 3 0 0")
 
     # Sizes.
     for precision, scale, size in ((0, 0, 0), (65, 30, 30), (65, 0, 29), (30, 30, 14), (18, 9, 8), (10, 1, 5)):
@@ -704,7 +734,7 @@ def edges():
     for line in ("", " ", "v", "v ", "v 0", "v 0g", "v  00", "V 00", "v 00 ", " v 00", "v\t00", "v 00\r", "v --", "v -00", "v 00 00",
                  "e 4 1 0 4 0 0200000400", "n 4 1 0 4 0200000400", "n 2 -1 0 4 0200000400", "n 2 +1 0 4 0200000400",
                  "n 2 4294967296 0 4 0200000400", "n 2 1 4294967296 4 0200000400", "n 2 1 0 4294967296 0200000400",
-                 "e 2 1 0 4 4294967296 0200000400", "n 2 1 0 0200000400", "n 2 1 0 4", "w 2049 -", "w -1 -", "w x -",
+                 "e 2 1 0 4 4294967296 0200000400", "n 2 1 0 0200000400", "n 2 1 0 4", "w 1821 -", "w 2048 -", "w -1 -", "w x -",
                  "r 2 0 2 e3", "r 2 0 e3", "p 2 040273dd", "o 2 -", "z", "i", "in 2 1 0 4 0200000400", "c 00", "s 1", "s 1 0 0",
                  "x 1 0 2 1 0 0 0 0 0 0 0 0 9", "x 1 0 0 1 0 0 0 0 0 0 0 9", "x 1 0 0 4294967296 0 0 0 0 0 0 0 0 9",
                  "y 1 0 0 1 0 0 0 0 0 0 0 0", "u", "u x", "t", "t 5"):
@@ -718,7 +748,7 @@ def line_edges():
     """Lines at the length limit, a last line with no end, and what follows a long line."""
     longest = b"w 10 0401" + b"00" * 32763
     cases = (
-        (longest + b"\n", ["1 / 4 0 0 0 0 1 1 0"]),
+        (longest + b"\n", ["1 / 4 0 0 0 0 1 1 0 0"]),
         (longest + b"0\nv 0401\n", ["long", "scalar 4 true"]),
         (b"x" * 65535 + b"\nv -\n", ["what", "scalar 4 null"]),
         (b"x" * 65536 + b"\nv -\n", ["long", "scalar 4 null"]),
@@ -939,11 +969,11 @@ class Encoder:
         return code, bytes((column_type,)) + bytes(field) + data, 1 + len(field), len(data), column_type
 
     def value(self, depth, budget):
-        """Type code, bytes, and a function that gives the events once start and key are known."""
+        """Type code, bytes, and a function that gives the events once start, key, the event's own index and its container's are known."""
         if budget == 0 or self.chance.random() < 0.4:
             code, data, shift, length, extra = self.scalar()
-            return code, data, lambda start, position, key: [
-                (code, depth, position) + key + (start + shift, length, extra)]
+            return code, data, lambda start, position, key, index, parent: [
+                (code, depth, position) + key + (start + shift, length, extra, parent)]
         kind = self.chance.randrange(4)
         width = 4 if kind in (1, 3) else 2
         count = self.chance.choice((0, 1, 2, 3))
@@ -974,11 +1004,11 @@ class Encoder:
         data = count.to_bytes(width, "little") + size.to_bytes(width, "little") + key_entries + entries + tail
         assert len(data) == size
 
-        def events(start, position, key):
-            said = [(kind, depth, position) + key + (start, size, count)]
+        def events(start, position, key, index, parent):
+            said = [(kind, depth, position) + key + (start, size, count, parent)]
             for number, (_, _, child) in enumerate(children):
                 offset, length = key_places[number]
-                said += child(start + places[number], number, (start + offset, length) if keyed else (0, 0))
+                said += child(start + places[number], number, (start + offset, length) if keyed else (0, 0), index + len(said), index)
             return said
         return kind, data, events
 
@@ -989,12 +1019,12 @@ def whole_documents():
     cases = []
     for _ in range(3000):
         code, data, events = encoder.value(0, 4)
-        said = events(1, 0, (0, 0))
-        if len(data) > 16000 or len(said) > 2048:
+        said = events(1, 0, (0, 0), 0, 0)
+        if len(data) > 16000 or len(said) > 1820:
             continue
         document = (bytes((code,)) + data + b"\xEE" * encoder.chance.randrange(2)).hex()
         lines = [" ".join("%d" % number for number in event) for event in said]
-        cases.append(("w 2048 " + document, " / ".join(["%d" % len(lines)] + lines)))
+        cases.append(("w 1820 " + document, " / ".join(["%d" % len(lines)] + lines)))
         cases.append(("w %d " % len(lines) + document, " / ".join(["%d" % len(lines)] + lines)))
         cases.append(("w 0 " + document, "0 refused 12 at 0"))
     return cases
@@ -1011,7 +1041,7 @@ def no_falls():
         for _ in range(chance.randrange(4)):
             document[chance.randrange(len(document))] = chance.choice((0, 1, 2, 3, 4, 7, 12, 15, 127, 128, 255, chance.randrange(256)))
         document = hexa(bytes(document[:chance.choice((len(document), chance.randrange(len(document) + 1)))]))
-        requests += ["w %d %s" % (chance.choice((0, 1, 2, 5, 2048)), document), "v " + document, "o 1 " + document]
+        requests += ["w %d %s" % (chance.choice((0, 1, 2, 5, 1820)), document), "v " + document, "o 1 " + document]
         view = "%d %d %d %d" % (chance.randrange(4), chance.randrange(8), chance.randrange(4), chance.randrange(30))
         requests += ["ie %s %s" % (view, document), "im %s %s" % (view, document), "ik %s %s" % (view, document)]
         requests.append("r %d %d %d %s" % (chance.randrange(70), chance.randrange(35), chance.randrange(2), hexa(chance.randbytes(chance.randrange(34)))))

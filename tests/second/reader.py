@@ -1,10 +1,10 @@
 #!/usr/bin/env python3
 """A second reader of binary JSON documents and packed decimals.
 
-It was written from document 01 (scope and rules), from document 02's request W2
-(negative zero) and from ANSWERS.md (the requests) alone, and shares no code with
-the other readers. It reads requests from standard input, one to a line, and writes
-one line for each.
+It was written from document 01 (scope and rules), from document 02's requests W2
+(negative zero), W5 (where a text breaks) and W6 (an event's container) and from
+ANSWERS.md (the requests) alone, and shares no code with the other readers. It
+reads requests from standard input, one to a line, and writes one line for each.
 
 Negative zero
 -------------
@@ -75,7 +75,7 @@ GREATEST_NUMBER = 4294967295
 GREATEST_DEPTH = 100
 LONGEST_LINE = 65536
 MOST_ITEMS = 1024
-MOST_EVENTS = 2048
+MOST_EVENTS = 1820
 MOST_ROOM = 128
 
 SMALL_OBJECT, LARGE_OBJECT, SMALL_ARRAY, LARGE_ARRAY = 0, 1, 2, 3
@@ -440,7 +440,8 @@ def walk_root(document, room, events):
         value = root_value(document)
     except Refused as refusal:
         raise WalkRefused(refusal.number, 0)
-    walk_value(document, room, events, value, 0, 0, (0, 0), 0)
+    # Document 02, W6: the root has no container; its ninth number is 0.
+    walk_value(document, room, events, value, 0, 0, (0, 0), 0, 0)
 
 
 def check_text(document, start, length):
@@ -450,22 +451,24 @@ def check_text(document, start, length):
         raise WalkRefused(9, start + place)
 
 
-def walk_value(document, room, events, value, depth, position, key, place):
+def walk_value(document, room, events, value, depth, position, key, place, parent):
     # Refusal numbers, the walk at one path: after the value come string 9 and 12.
+    # Document 02, W6: an event's ninth number is the index in the list of its container's event.
     if isinstance(value, Container):
-        event = (value.kind, depth, position) + key + (value.start, value.size, value.count)
+        event = (value.kind, depth, position) + key + (value.start, value.size, value.count, parent)
     else:
         if value.code == STRING:
             check_text(document, value.start, value.length)
-        event = (value.code, depth, position) + key + (value.start, value.length, value.extra)
+        event = (value.code, depth, position) + key + (value.start, value.length, value.extra, parent)
     if len(events) >= room:
         raise WalkRefused(12, place)
+    index = len(events)
     events.append(event)
     if isinstance(value, Container):
-        walk_children(document, room, events, value, depth + 1)
+        walk_children(document, room, events, value, depth + 1, index)
 
 
-def walk_children(document, room, events, container, depth):
+def walk_children(document, room, events, container, depth, parent):
     # Refusal numbers, the walk at one path: 11, key 5, key 9, value; in order.
     for position in range(container.count):
         value_place = value_entry_start(container, position)
@@ -478,7 +481,7 @@ def walk_children(document, room, events, container, depth):
             value = read_entry(document, container, position)
         except Refused as refusal:
             raise WalkRefused(refusal.number, value_place)
-        walk_value(document, room, events, value, depth, position, key, value_place)
+        walk_value(document, room, events, value, depth, position, key, value_place, parent)
 
 
 def walk_key(document, container, position):

@@ -1,4 +1,4 @@
-//! The walk over the original's own views: `key_at` and `elem_at` by position, `from_utf8` on keys and strings, and an event of eight numbers for each
+//! The walk over the original's own views: `key_at` and `elem_at` by position, `from_utf8` on keys and strings, and an event of nine numbers for each
 //! path. The original has no such listing, so this one is ours, written to cost it as little as can be: nothing is allocated, and of the document's
 //! bytes it reads by itself only what a view does not show, which is where a number or a container starts and how large a container is.
 
@@ -10,6 +10,9 @@ use mysql_common::{
 };
 
 const DEEPEST: u32 = 100;
+
+/// How many numbers an event has.
+pub const WIDE: usize = 9;
 
 /// Any fault of a document.
 #[derive(Debug)]
@@ -23,16 +26,17 @@ fn sound<T, E>(found: Result<T, E>) -> Result<T, Refused> {
 pub fn list(doc: &[u8], events: &mut [u32]) -> Result<usize, Refused> {
     let root: Value = sound(ParseBuf(doc).parse(()))?;
     let mut listing = Listing { doc, events, count: 0 };
-    listing.value(&root, Path { depth: 0, pos: 0, key: (0, 0) }, Entry { at: 0, base: 1, width: 0 })?;
+    listing.value(&root, Path { depth: 0, pos: 0, key: (0, 0), parent: 0 }, Entry { at: 0, base: 1, width: 0 })?;
     Ok(listing.count)
 }
 
-/// Who a value is: its depth, its position, and its key's start and length.
+/// Who a value is: its depth, its position, its key's start and length, and the index of its container's event, 0 for the root.
 #[derive(Clone, Copy)]
 struct Path {
     depth: u32,
     pos: u32,
     key: (u32, u32),
+    parent: u32,
 }
 
 /// Where a value's entry is: its type byte, the first byte of the container, and the bytes of an offset. The root's type byte is like an entry
@@ -53,8 +57,8 @@ struct Listing<'a> {
 impl Listing<'_> {
     #[inline]
     fn put(&mut self, code: u32, path: Path, start: usize, length: usize, extra: u32) -> Result<(), Refused> {
-        let event = self.events.get_mut(8 * self.count..8 * self.count + 8).ok_or(Refused)?;
-        event.copy_from_slice(&[code, path.depth, path.pos, path.key.0, path.key.1, start as u32, length as u32, extra]);
+        let event = self.events.get_mut(WIDE * self.count..WIDE * self.count + WIDE).ok_or(Refused)?;
+        event.copy_from_slice(&[code, path.depth, path.pos, path.key.0, path.key.1, start as u32, length as u32, extra, path.parent]);
         self.count += 1;
         Ok(())
     }
@@ -113,6 +117,7 @@ impl Listing<'_> {
 
     fn members<T: StorageFormat>(&mut self, view: &ComplexValue<'_, T, Object>, code: u32, path: Path, base: usize) -> Result<(), Refused> {
         let (width, count) = (T::OFFSET_SIZE as usize, view.element_count());
+        let parent = self.count as u32;
         self.put(code, path, base, self.number(base + width, width), count)?;
         if count > 0 && path.depth == DEEPEST {
             return Err(Refused);
@@ -123,7 +128,7 @@ impl Listing<'_> {
             let bytes = key.value_raw();
             sound(from_utf8(bytes))?;
             let value = sound(view.elem_at(pos))?.ok_or(Refused)?;
-            let path = Path { depth: path.depth + 1, pos, key: (self.start_of(bytes) as u32, bytes.len() as u32) };
+            let path = Path { depth: path.depth + 1, pos, key: (self.start_of(bytes) as u32, bytes.len() as u32), parent };
             self.value(&value, path, Entry { at: values + pos as usize * T::VALUE_ENTRY_SIZE as usize, base, width })?;
         }
         Ok(())
@@ -131,6 +136,7 @@ impl Listing<'_> {
 
     fn elements<T: StorageFormat>(&mut self, view: &ComplexValue<'_, T, Array>, code: u32, path: Path, base: usize) -> Result<(), Refused> {
         let (width, count) = (T::OFFSET_SIZE as usize, view.element_count());
+        let parent = self.count as u32;
         self.put(code, path, base, self.number(base + width, width), count)?;
         if count > 0 && path.depth == DEEPEST {
             return Err(Refused);
@@ -138,7 +144,7 @@ impl Listing<'_> {
         let values = base + 2 * width;
         for pos in 0..count {
             let value = sound(view.elem_at(pos))?.ok_or(Refused)?;
-            let path = Path { depth: path.depth + 1, pos, key: (0, 0) };
+            let path = Path { depth: path.depth + 1, pos, key: (0, 0), parent };
             self.value(&value, path, Entry { at: values + pos as usize * T::VALUE_ENTRY_SIZE as usize, base, width })?;
         }
         Ok(())

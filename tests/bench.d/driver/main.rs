@@ -80,7 +80,7 @@ trait Measure {
 
 /// Room for the events of a document: each has an entry of its own, of three bytes or more, but for the root.
 fn room(doc: &[u8]) -> Vec<u32> {
-    vec![0; 8 * (doc.len() / 3 + 1)]
+    vec![0; listing::WIDE * (doc.len() / 3 + 1)]
 }
 
 fn cases(folder: &Path, measure: &mut impl Measure) {
@@ -166,7 +166,7 @@ fn same_events(name: &str, doc: &[u8]) -> usize {
     let (mut left, mut right) = (room(doc), room(doc));
     let ours = ours::walk(doc, &mut left).unwrap_or_else(|number| panic!("{name}: refused by {number}"));
     let rust = listing::list(doc, &mut right).unwrap_or_else(|_| panic!("{name}: the original refuses it"));
-    assert!(ours == rust && left[..8 * ours] == right[..8 * rust], "{name}: the events differ");
+    assert!(ours == rust && left[..listing::WIDE * ours] == right[..listing::WIDE * rust], "{name}: the events differ");
     ours
 }
 
@@ -357,7 +357,7 @@ fn stack(folder: &Path) {
 
 fn stack_of(call: impl FnOnce(&mut [u32]) -> usize + Send + 'static) -> usize {
     let run = move || {
-        let mut events = vec![0; 8 * 128];
+        let mut events = vec![0; listing::WIDE * 128];
         let top: usize;
         // SAFETY: it reads the stack pointer and touches nothing.
         unsafe { arch::asm!("mov {}, rsp", out(reg) top) };

@@ -39,7 +39,7 @@ const REFUSED: Word = "refused";
 const LOST: Word = "lost";
 
 const MOST_ITEMS: usize = 1024;
-const MOST_ROOM: u32 = 2048;
+const MOST_ROOM: u32 = 1820;
 const MOST_OUTPUT: u32 = 128;
 const DEEPEST: u32 = 100;
 
@@ -464,14 +464,15 @@ fn keys(home: Container, doc: &[u8]) -> Result<String, Word> {
 struct Walk<'a> {
     doc: &'a [u8],
     room: usize,
-    events: Vec<[usize; 8]>,
+    events: Vec<[usize; 9]>,
 }
 
-/// Who a value is: its depth, its position, and its key's start and length.
+/// Who a value is: its depth, its position, its key's start and length, and the index of its container's event, 0 for the root.
 struct Path {
     depth: u32,
     pos: u32,
     key: (usize, usize),
+    parent: usize,
 }
 
 impl Walk<'_> {
@@ -485,8 +486,9 @@ impl Walk<'_> {
         }
         let kind = code(value);
         let Found { start, length, extra } = found;
-        let Path { depth, pos, key } = path;
-        self.events.push([kind as usize, depth as usize, pos as usize, key.0, key.1, start, length, extra as usize]);
+        let Path { depth, pos, key, parent } = path;
+        let index = self.events.len();
+        self.events.push([kind as usize, depth as usize, pos as usize, key.0, key.1, start, length, extra as usize, parent]);
         if kind < 4 {
             let home = Container { kind, start, count: extra, size: length };
             for pos in 0..home.count {
@@ -496,7 +498,7 @@ impl Walk<'_> {
                 let key = self.key_at(value, pos)?;
                 let child = elem_at(value, pos).or(Err(REFUSED))?.ok_or(LOST)?;
                 let found = find(self.doc, &child, home.value_start(self.doc, pos), home.end())?;
-                self.list(&child, Path { depth: depth + 1, pos, key }, found)?;
+                self.list(&child, Path { depth: depth + 1, pos, key, parent: index }, found)?;
             }
         }
         Ok(())
@@ -516,7 +518,7 @@ fn listing(doc: &[u8], room: usize) -> Result<String, Word> {
     let mut walk = Walk { doc, room, events: Vec::new() };
     let end = root(doc).and_then(|value| {
         let found = find_root(doc, &value)?;
-        walk.list(&value, Path { depth: 0, pos: 0, key: (0, 0) }, found)
+        walk.list(&value, Path { depth: 0, pos: 0, key: (0, 0), parent: 0 }, found)
     });
     let mut line = walk.events.len().to_string();
     for event in &walk.events {
