@@ -109,7 +109,7 @@ unfoldable pub indexOf : List ℕ → List Item → ℕ
 indexOf π [] = 0
 indexOf π (x ∷ xs) = cond (isSame π (x .path)) 0 (suc (indexOf π xs))
 
--- the index of the container (document 02, W6): one event is listed for each item, in their order, so that this is the index of its event
+-- the index of the container (document 02, W6). An event is listed for each item, in their order, so that this is the index of the container's event
 abbrev pub parentIn : List Item → Item → ℕ
 parentIn xs x = indexOf (above (x .path)) xs
 

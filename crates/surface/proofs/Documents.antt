@@ -1,4 +1,4 @@
--- What a walk answers fits into 32 bits and is told whole, and a view of no kind is no document's.
+-- What a walk answers fits into 32 bits and is told whole, from each of its events one climbs to the root, and a view of no kind is no document's.
 -- Assumes nothing.
 use mathlib.Core.Path.{_≡_, refl, ap, _∙_}
 use mathlib.Core.Bool.{Bool, true, false, cond}
@@ -16,7 +16,11 @@ use Rattle.gate.specs.Said.{Said, refuses}
 use Rattle.gate.specs.Before.{names, matches, gated}
 use Rattle.events.specs.declared.Walked.{Walked}
 use Rattle.events.specs.declared.Walked.the-variants.{Done, Stopped}
-use Rattle.paths.specs.Shown.{Walks}
+use Rattle.events.specs.Lay.{room}
+use Rattle.paths.specs.Shown.{Walks, told, shown}
+use Rattle.paths.proofs.Laid.{walked as walked-as, walked-told}
+use Rattle.walk_laws.specs.Promise.{depthIn, climbs}
+use Rattle.walk_laws.proofs.Corollaries.{eventCount, climbs-home}
 use Rattle.walk_laws.proofs.Small.{done-small, stopped-small, stopped-near}
 use Rattle.value.specs.declared.View.{View}
 use Rattle.lent.specs.Layout.{low}
@@ -61,3 +65,24 @@ module _ (d out : List ℕ) where
   pub walked : {w : Walked} {left : List ℕ} → Walks d out w left → left ≡ walkLeaves d out
   unfolding walkLeaves
   walked p = p .leaves
+
+  -- the walk that the numbers tell of
+  shown-walk : Walks d out (walked-as (shown d (room out)) 0) (walkLeaves d out)
+  unfolding walkLeaves
+  shown-walk = record { answer = walked-told (shown d (room out)) 0; leaves = refl }
+
+  -- from each of the events that it counts, n of them, one climbs to the root: as many times as the event's depth, also where a refusal is told
+  pub walk-climbs : (f n p : ℕ) → walkTold d out ≡ ended f n p → (k : ℕ) → k < n → climbs (walkLeaves d out) (depthIn (walkLeaves d out) k) k ≡ 0
+  unfolding walkTold
+  walk-climbs f n p e k h = climbs-home d out r (walkLeaves d out) shown-walk k (omega (arith, counted r (ap endTold (shown-walk .answer) ∙ e)))
+    where
+      r : Walked
+      r = walked-as (shown d (room out)) 0
+
+      first : List ℕ → ℕ
+      first [] = 0
+      first (m ∷ ms) = m
+
+      counted : (q : Walked) → endTold (told q) ≡ ended f n p → eventCount q ≡ n
+      counted (Done m) x = ap (λ (t : Told). first (t .values)) x
+      counted (Stopped g y m) x = ap (λ (t : Told). first (t .values)) x

@@ -227,6 +227,20 @@ fn twice_examples() {
     list(b"\x02\x02\x00\x0C\x00\x0C\x0A\x00\x0C\x0A\x00\x01\x41");
 }
 
+// Containers in containers, whose events the last numbers of those in them name: arrays in an array; the same where the second holds a literal that is none;
+// an object whose second member comes after what is in the first.
+fn parent_examples() {
+    list(
+        b"\x02\x02\x00\x18\x00\x02\x0A\x00\x02\x11\x00\x01\x00\x07\x00\x04\x01\x00\x01\x00\x07\x00\x05\xFE\xFF",
+    );
+    list(
+        b"\x02\x02\x00\x18\x00\x02\x0A\x00\x02\x11\x00\x01\x00\x07\x00\x04\x01\x00\x01\x00\x07\x00\x04\x03\x00",
+    );
+    list(
+        b"\x00\x02\x00\x1B\x00\x12\x00\x01\x00\x13\x00\x01\x00\x02\x14\x00\x05\xFE\xFF\x61\x62\x01\x00\x07\x00\x04\x01\x00",
+    );
+}
+
 // A large object of a double, an Int32 within its entry, a decimal, an empty array and a Uint64.
 fn large_examples() {
     list(
@@ -245,6 +259,7 @@ fn main() {
     object_examples();
     text_examples();
     twice_examples();
+    parent_examples();
     large_examples();
     end_examples();
     nested_examples();

@@ -1,5 +1,5 @@
 -- What the theorem shuts out: a walk that refuses all, one that lists only the root, one that reports an invented count (document 01, 'How tight the
--- promises are'). Then paths that share bytes, a document above the length limit, and the length of the lent list.
+-- promises are'). Then paths that share bytes, a document above the length limit, the length of the lent list, and climbing by the numbers of the list alone.
 -- Assumes nothing.
 use mathlib.Core.Path.{_≡_, refl, ap, _∙_, subst}
 use mathlib.Core.List.{List, [], _∷_, _++_, map, List·Memᴰ, List·Memᴰ·not-nil}
@@ -22,10 +22,11 @@ use Rattle.events.specs.Lay.{room}
 use Rattle.paths.specs.Paths.{rootStand, child, viewIn, countIn, here, down, Item, item, under, gather, tree, paths}
 use Rattle.paths.specs.Shown.{Walks}
 use Rattle.paths.proofs.Laid.{room-fits}
-use Rattle.walk_laws.specs.Promise.{IsUtf8, Leads, Readable, AllRead, Everything, UpTo101, eventsIn, written, value-refused, wrong, Halt, Room}
+use Rattle.walk_laws.specs.Promise.{IsUtf8, Leads, Readable, AllRead, Everything, UpTo101, eventsIn, written, depthIn, climbs, value-refused, wrong, Halt, Room}
+use Rattle.walk_laws.specs.Promise.{Standing, every, before}
 use Rattle.walk_laws.proofs.Reach.{reach}
 use Rattle.walk_laws.proofs.Stops.{events-length, stop-room}
-use Rattle.walk_laws.proofs.Theorem.{everything, done-read, events-left, success, listing, refusal, untouched}
+use Rattle.walk_laws.proofs.Theorem.{everything, done-read, events-left, success, listing, refusal, untouched, climbing}
 
 no-key-utf8 : (d : List ℕ) → IsUtf8 d noKey
 no-key-utf8 d = record { inside = omega arith; octets = none }
@@ -157,3 +158,21 @@ same-length d out r left w =
     let f : length (drop (wide * length xs) out) ≡ length out - wide * length xs = length-drop (wide * length xs) out in
     let g = room-fits out in
     omega arith
+
+-- ---- from each of the events that a walk counts one climbs to the root, whether it succeeds or is refused
+abbrev pub eventCount : Walked → ℕ
+eventCount (Done n) = n
+eventCount (Stopped f p n) = n
+
+pub stands : (d out : List ℕ) (r : Walked) (left : List ℕ) → Walks d out r left → (xs : List Item) × (Standing d out r xs × (eventCount r ≡ length xs))
+stands d out (Done n) left w =
+    let v = everything d (done-read d out (Done n) left w n refl) in
+    (paths d, (every v, listing d out n left w (paths d) v .count))
+stands d out (Stopped f p n) left w =
+    let h = refusal d out (Stopped f p n) left w (paths d) (reach d) f p n .0 refl in
+    (h .before, (before (reach d) h, h .count))
+
+pub climbs-home : (d out : List ℕ) (r : Walked) (left : List ℕ) → Walks d out r left → (k : ℕ) → k < eventCount r → climbs left (depthIn left k) k ≡ 0
+climbs-home d out r left w k h =
+    let (xs, (s, e)) = stands d out r left w in
+    climbing d out r left w xs s k (omega arith) .ends
