@@ -151,12 +151,12 @@ uint32_t bratthelm_key_at(const uint8_t *doc, size_t doc_len, uint32_t code, uin
 uint32_t bratthelm_element_count(const uint8_t *doc, size_t doc_len, uint32_t code, uint32_t start, uint32_t size, uint32_t count,
                                  uint32_t *answer, size_t answer_len);
 
-/* Every path of the document, a path before what is below it and otherwise by position, as events of nine numbers: type code, depth, position, key's start and
- * length, value's start and length, a container's count, an opaque value's column type, or 0, and the index of its container's event, 0 for the root, which has
- * none. There is room for events_len / 9 of them. The row is the count of events and the place of the fault; it is stored, and that many events stand, also
- * where a number is returned: 1 to 12.
+/* Every path of the document, a path before what is below it and otherwise by position, as events of nine numbers: type code, depth, position, key's start, key's
+ * length, value's start, value's length, one that is a container's count, an opaque value's column type or else 0, and the index of its container's event.
+ * There is room for events_len / 9 of them. The row is the count of events and the place of the fault; it is stored, and that many events stand, also where a
+ * number is returned: 1 to 12.
  * To climb: the container of event i is event events[BRATTHELM_EVENT_LEN * i + 8], which stands before it. From any event that stands, also where a number is
- * returned, as many such steps as its depth lead to the root, event 0. */
+ * returned, as many such steps as its depth lead to the root. The root is event 0, of depth 0, and its own number is 0 too: stop there. */
 uint32_t bratthelm_walk(const uint8_t *doc, size_t doc_len, uint32_t *events, size_t events_len, uint32_t *answer, size_t answer_len);
 
 /* The decimal in the digit bytes at the front, of a precision and a scale, a row of a decimal: 20, 21, 22. With keep other than 0 it keeps its

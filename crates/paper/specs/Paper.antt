@@ -1,6 +1,6 @@
--- Document 01's examples that are marked (P): each row a question, and beside it what document 01 answers, or document 02 where it changes that; an event's
--- ninth number, the index of its container's event, is document 02's (W6). A kind of question is a constructor
--- of `Row`, and `asked` says what the definitions answer to it: a thing, nothing, or the number of the refusal.
+-- Document 01's examples that are marked (P): each row a question, and beside it what document 01 answers, or document 02 where it changes that; and rows
+-- for what document 02 adds, the byte at which text breaks (W5) and the index of an event's container, its ninth number (W6). A kind of question is a
+-- constructor of `Row`, and `asked` says what the definitions answer to it: a thing, nothing, or the number of the refusal.
 -- Assumes nothing.
 use Prim.Native.Nat.{ℕ}
 use mathlib.Core.Bool.{Bool, true, false, cond}

@@ -2,6 +2,8 @@
 --     Past                     what items add to an index
 --     past-one and others      items that are not the path: one, two lists, the items behind another path
 --     index-at                 the index of an item that is behind such
+--     last-snoc, above-snoc    a path's last position and what is before it; `snoc-of` puts both together
+--     longer, same-next        paths that begin alike
 -- Assumes nothing.
 use mathlib.Core.Path.{_≡_, refl, ap, _∙_}
 use mathlib.Core.Bool.{Bool, true, false, cond}
@@ -11,7 +13,7 @@ use native.Mathlib.Omega.{arith}
 use lib.Dec.{eqb}
 use lib.ListN.{length, length-append}
 use borrow.Author.Tests.{eqb-true, eq-eqb}
-use Rattle.paths.specs.Paths.{Item, item, above, isSame, indexOf}
+use Rattle.paths.specs.Paths.{Item, item, lastOf, above, isSame, indexOf}
 
 -- an item seen from the end of a path above it
 abbrev pub behind : List ℕ → Item → Item
@@ -43,8 +45,7 @@ past-none σ zs = omega arith
 
 pub past-one : (x : Item) (bs : List Item) (σ : List ℕ) → (σ ≡ x .path → ⊥) → Past bs σ → Past (x ∷ bs) σ
 unfolding indexOf
-past-one x bs σ h p zs =
-    ap (λ (b : Bool). cond b 0 (suc (indexOf σ (bs ++ zs)))) (same-differ σ (x .path) h) ∙ omega (arith, p zs)
+past-one x bs σ h p zs = rw (same-differ σ (x .path) h) (omega (arith, p zs))
 
 pub past-append : (bs cs : List Item) (σ : List ℕ) → Past bs σ → Past cs σ → Past (bs ++ cs) σ
 past-append bs cs σ p q zs =
@@ -63,13 +64,25 @@ index-self x zs = ap (λ (b : Bool). cond b 0 (suc (indexOf (x .path) zs))) (sam
 pub index-at : (bs : List Item) (x : Item) (zs : List Item) → Past bs (x .path) → indexOf (x .path) (bs ++ x ∷ zs) ≡ length bs
 index-at bs x zs p = omega (arith, p (x ∷ zs), index-self x zs)
 
--- ---- paths that differ behind a common front, and the path of a container
+-- ---- a path's last position, and the path of its container
+pub last-snoc : (π : List ℕ) (i : ℕ) → lastOf (π ++ i ∷ []) ≡ i
+unfolding lastOf
+last-snoc [] i = refl
+last-snoc (j ∷ []) i = refl
+last-snoc (j ∷ k ∷ π) i = last-snoc (k ∷ π) i
+
 pub above-snoc : (π : List ℕ) (i : ℕ) → above (π ++ i ∷ []) ≡ π
 unfolding above
 above-snoc [] i = refl
 above-snoc (j ∷ []) i = refl
 above-snoc (j ∷ k ∷ π) i = ap (λ (ρ : List ℕ). j ∷ ρ) (above-snoc (k ∷ π) i)
 
+pub snoc-of : (i : ℕ) (π : List ℕ) → i ∷ π ≡ above (i ∷ π) ++ lastOf (i ∷ π) ∷ []
+unfolding above lastOf
+snoc-of i [] = refl
+snoc-of i (j ∷ π) = ap (λ (ρ : List ℕ). i ∷ ρ) (snoc-of j π)
+
+-- ---- paths that begin alike
 pub longer : (π : List ℕ) (i : ℕ) (ρ : List ℕ) → π ++ i ∷ ρ ≡ π → ⊥
 longer π i ρ e = let h : length (π ++ i ∷ ρ) ≡ length π = ap length e in omega (arith, length-append π (i ∷ ρ))
 

@@ -24,7 +24,7 @@ use Rattle.events.specs.declared.Spot.{Spot}
 use Rattle.events.specs.Listing.{Listing, end, fault, event}
 use Rattle.paths.specs.Levels.{_then_, size, entries, entryStand, entryListing, children, listing}
 use Rattle.paths.specs.Paths.{rootStand, child, viewIn, countIn, Item, item, under, gather, tree, paths, lastOf, above, isSame, indexOf, parentIn, said, scan}
-use Rattle.paths.proofs.Index.{behind, Past, past-none, past-one, past-append, past-behind, index-at, above-snoc, longer, same-next}
+use Rattle.paths.proofs.Index.{behind, Past, past-none, past-one, past-append, past-behind, index-at, last-snoc, above-snoc, longer, same-next}
 use Rattle.paths.proofs.Whole.{SaidStands, root-stands, elem-stands, entry-child}
 
 -- ---- listings one after the other: what follows counts where there is no fault before it
@@ -73,12 +73,6 @@ behind-under π i (x ∷ xs) =
 behind-nil : (xs : List Item) → map (behind []) xs ≡ xs
 behind-nil [] = refl
 behind-nil (x ∷ xs) = ap (λ (ys : List Item). x ∷ ys) (behind-nil xs)
-
-pub last-snoc : (π : List ℕ) (i : ℕ) → lastOf (π ++ i ∷ []) ≡ i
-unfolding lastOf
-last-snoc [] i = refl
-last-snoc (j ∷ []) i = refl
-last-snoc (j ∷ k ∷ π) i = last-snoc (k ∷ π) i
 
 -- ---- what is said of a path that is too long, and of one that is not
 module _ (d : List ℕ) (all : List Item) (x : Item) where

@@ -1,7 +1,7 @@
 -- What a walk answers fits into 32 bits and is told whole, from each of its events one climbs to the root, and a view of no kind is no document's.
 -- Assumes nothing.
 use mathlib.Core.Path.{_≡_, refl, ap, _∙_}
-use mathlib.Core.Bool.{Bool, true, false, cond}
+use mathlib.Core.Bool.{Bool, true, false}
 use mathlib.Core.List.{List, [], _∷_}
 use Prim.Native.Nat.{ℕ, _≤_, _<_}
 use native.Mathlib.Omega.{arith}
@@ -9,18 +9,15 @@ use lib.ListN.{length}
 use borrow.Author.Tests.{lt-ltb, le-ltb}
 use Rattle.refusal.specs.Told.{Told, answer}
 use Rattle.layout.proofs.Cond.{yes, no}
-use Rattle.header.specs.Headers.{placeFault, headerRead, headerAt}
-use Rattle.header.specs.declared.Header.{Header}
-use Rattle.header.specs.declared.Header.the-variants as header
+use Rattle.header.specs.Headers.{placeFault, headerRead}
 use Rattle.gate.specs.Said.{Said, refuses}
-use Rattle.gate.specs.Before.{names, matches, gated}
+use Rattle.gate.specs.Before.{matches, gated}
 use Rattle.events.specs.declared.Walked.{Walked}
 use Rattle.events.specs.declared.Walked.the-variants.{Done, Stopped}
 use Rattle.events.specs.Lay.{room}
 use Rattle.paths.specs.Shown.{Walks, told, shown}
 use Rattle.paths.proofs.Laid.{walked as walked-as, walked-told}
-use Rattle.walk_laws.specs.Promise.{depthIn, climbs}
-use Rattle.walk_laws.proofs.Corollaries.{eventCount, climbs-home}
+use Rattle.walk_laws.proofs.Corollaries.{eventCount, Home, climbs-home}
 use Rattle.walk_laws.proofs.Small.{done-small, stopped-small, stopped-near}
 use Rattle.value.specs.declared.View.{View}
 use Rattle.lent.specs.Layout.{low}
@@ -66,13 +63,13 @@ module _ (d out : List ℕ) where
   unfolding walkLeaves
   walked p = p .leaves
 
-  -- the walk that the numbers tell of
-  shown-walk : Walks d out (walked-as (shown d (room out)) 0) (walkLeaves d out)
+  -- what is told and left is a walk's, so that all that the theorem of the walk says is said of it
+  pub shown-walk : Walks d out (walked-as (shown d (room out)) 0) (walkLeaves d out)
   unfolding walkLeaves
   shown-walk = record { answer = walked-told (shown d (room out)) 0; leaves = refl }
 
-  -- from each of the events that it counts, n of them, one climbs to the root: as many times as the event's depth, also where a refusal is told
-  pub walk-climbs : (f n p : ℕ) → walkTold d out ≡ ended f n p → (k : ℕ) → k < n → climbs (walkLeaves d out) (depthIn (walkLeaves d out) k) k ≡ 0
+  -- from each of the events that it counts, n of them, one climbs to the root, also where a refusal is told
+  pub walk-climbs : (f n p : ℕ) → walkTold d out ≡ ended f n p → (k : ℕ) → k < n → Home (walkLeaves d out) k
   unfolding walkTold
   walk-climbs f n p e k h = climbs-home d out r (walkLeaves d out) shown-walk k (omega (arith, counted r (ap endTold (shown-walk .answer) ∙ e)))
     where

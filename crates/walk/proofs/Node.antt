@@ -1,5 +1,6 @@
 -- One path and what is below it: what is judged there is laid by itself, and from where it ends what is below the value that was read.
 --     next, lay-then          a listing after another is laid where the first ends
+--     done-size, done-one     one that is done has counted its events; a path has one
 --     below, apart            what is below a value that was read, and a path with it
 --     array-so and others     what a value is by what it leads to
 -- Assumes nothing.

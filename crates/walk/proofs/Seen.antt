@@ -22,7 +22,6 @@ use Rattle.utf8.specs.declared.Utf8Check.{Utf8Check}
 use Rattle.utf8.specs.declared.Utf8Check.the-variants.{Valid, Bad}
 use Rattle.value.specs.declared.Span.{Span}
 use Rattle.value.specs.declared.View.{View}
-use Rattle.value.specs.declared.Scalar.{Scalar}
 use Rattle.value.specs.declared.Value.{Value}
 use Rattle.value.specs.declared.Value.the-variants as value
 use Rattle.content.specs.declared.Read.{Read}

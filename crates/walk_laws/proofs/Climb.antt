@@ -1,7 +1,7 @@
 -- From each event that stands one climbs to the root. Paths stand in order, and a path's container is a path too and comes before it; so it stands among the
 -- events before, once, and its index is the number that the event shows.
 --     prefix-events      the events of the first paths are the same among these and among all
---     climbing           each of them climbs to the root
+--     climbs-up          from each of them one climbs to the root
 -- Assumes nothing.
 use mathlib.Core.Path.{_≡_, refl, sym, ap, _∙_, subst}
 use mathlib.Core.List.{List, [], _∷_, _++_, append-assoc, List·Memᴰ, List·Memᴰ·head, List·Memᴰ·tail, List·Memᴰ·cases-cons}
@@ -16,7 +16,7 @@ use Rattle.events.specs.Events.{eventOf, numbers, wide}
 use Rattle.paths.specs.Judged.{Stand, spot}
 use Rattle.paths.specs.Paths.{rootStand, Below, here, down, Before, prefix, inside, Item, item, tree, paths, lastOf, above, indexOf, parentIn}
 use Rattle.paths.proofs.Scan.{root-index}
-use Rattle.paths.proofs.Index.{Past, past-none, past-one, index-at}
+use Rattle.paths.proofs.Index.{Past, past-none, past-one, index-at, snoc-of}
 use Rattle.walk_laws.specs.Promise.{Ascending, keyIn, valueIn, eventAt, eventsIn, depthIn, positionIn, climb, climbs, pathAt, Climbs}
 use Rattle.walk_laws.proofs.Order.{differ, irreflexive, transitive}
 use Rattle.walk_laws.proofs.Reach.{reach}
@@ -47,12 +47,7 @@ unfolding pathAt
 path-there [] x cs = refl
 path-there (b ∷ bs) x cs = path-there bs x cs
 
--- ---- the path of a container
-snoc-of : (i : ℕ) (π : List ℕ) → i ∷ π ≡ above (i ∷ π) ++ lastOf (i ∷ π) ∷ []
-unfolding above lastOf
-snoc-of i [] = refl
-snoc-of i (j ∷ π) = ap (λ (ρ : List ℕ). i ∷ ρ) (snoc-of j π)
-
+-- ---- the container's path leads somewhere, and comes before
 leads-up : {d : List ℕ} {s t : Stand} (π : List ℕ) (i : ℕ) → Below d s (π ++ i ∷ []) t → (u : Stand) × Below d s π u
 leads-up {s = s} [] i b = (s, here)
 leads-up (j ∷ π) i (down h b) = let (u, c) = leads-up π i b in (u, down h c)
@@ -117,13 +112,20 @@ module _ (d : List ℕ) (bs : List Item) (x : Item) (cs : List Item) (e : paths 
       let (fs, (gs, f)) = among y n in
       parted y fs gs f
 
-  -- its index is the same in any list that goes on behind it
-  parent-index : (n : ℕ) × ((ys : List Item) → parentIn (bs ++ x ∷ ys) x ≡ n)
+  -- the root's own index is its container's
+  root-parent : x .path ≡ [] → (ys : List Item) → parentIn (bs ++ x ∷ ys) x ≡ length bs
   unfolding above
+  root-parent q ys =
+      ap (λ (σ : List ℕ). indexOf (above σ) (bs ++ x ∷ ys)) q
+      ∙ ap (λ (σ : List ℕ). indexOf σ (bs ++ x ∷ ys)) (sym q)
+      ∙ index-at bs x ys (past-ascending bs x cs order)
+
+  -- a container's index is the same in any list that goes on behind the item
+  parent-index : (n : ℕ) × ((ys : List Item) → parentIn (bs ++ x ∷ ys) x ≡ n)
   parent-index = go (x .path) refl
     where
       go : (ρ : List ℕ) → x .path ≡ ρ → (n : ℕ) × ((ys : List Item) → parentIn (bs ++ x ∷ ys) x ≡ n)
-      go [] q = (length bs, λ ys. ap (λ (σ : List ℕ). indexOf (above σ) (bs ++ x ∷ ys)) q ∙ ap (λ (σ : List ℕ). indexOf σ (bs ++ x ∷ ys)) (sym q) ∙ index-at bs x ys (past-ascending bs x cs order))
+      go [] q = (length bs, root-parent q)
       go (i ∷ π) q =
           let r = parent (above (i ∷ π)) (lastOf (i ∷ π)) (q ∙ snoc-of i π) in
           (length (r .front), λ ys. ap (λ (σ : List ℕ). indexOf (above σ) (bs ++ x ∷ ys)) q ∙ parent-at r (x ∷ ys))
@@ -216,27 +218,20 @@ module _ (d : List ℕ) (xs zs : List Item) (e : paths d ≡ xs ++ zs) where
 
       -- the root stands first
       root-first : pathAt xs k ≡ [] → k ≡ 0
+      unfolding above
       root-first q =
           let p : there .item .path ≡ [] = sym path-is ∙ q in
-          let i : indexOf (there .item .path) (paths d) ≡ length (there .before) =
-          ap (indexOf (there .item .path)) among-all
-          ∙ index-at (there .before) (there .item) (there .after ++ zs)
-          (past-ascending (there .before) (there .item) (there .after ++ zs) (order d (there .before) (there .item) (there .after ++ zs) among-all)) in
-          let z : indexOf (there .item .path) (paths d) ≡ 0 = ap (λ (σ : List ℕ). indexOf σ (paths d)) p ∙ root-index d in
-          omega (arith, there .count)
+          let n = root-parent d (there .before) (there .item) (there .after ++ zs) among-all p (there .after ++ zs) in
+          let z : parentIn (paths d) (there .item) ≡ 0 = ap (λ (σ : List ℕ). indexOf (above σ) (paths d)) p ∙ root-index d in
+          omega (arith, there .count, ap (λ (ys : List Item). parentIn ys (there .item)) among-all)
 
       climb-root : pathAt xs k ≡ [] → climb left k ≡ 0
-      unfolding above
       climb-root q =
-          let p : there .item .path ≡ [] = sym path-is ∙ q in
-          let n : length (there .before) ≡ 0 = there .count ∙ root-first q in
           number 8 (omega arith)
-          ∙ ap (λ (σ : List ℕ). indexOf (above σ) xs) p
-          ∙ ap (λ (σ : List ℕ). indexOf σ xs) (sym p)
-          ∙ ap (indexOf (there .item .path)) (there .split)
-          ∙ index-at (there .before) (there .item) (there .after)
-          (past-ascending (there .before) (there .item) (there .after ++ zs) (order d (there .before) (there .item) (there .after ++ zs) among-all))
-          ∙ n
+          ∙ ap (λ (ys : List Item). parentIn ys (there .item)) (there .split)
+          ∙ root-parent d (there .before) (there .item) (there .after ++ zs) among-all (sym path-is ∙ q) (there .after)
+          ∙ there .count
+          ∙ root-first q
 
       -- one climbs to the container
       module _ (i : ℕ) (π : List ℕ) (q : pathAt xs k ≡ i ∷ π) where
@@ -278,37 +273,41 @@ module _ (d : List ℕ) (xs zs : List Item) (e : paths d ≡ xs ++ zs) where
             ∙ ap (λ (ρ : List ℕ). ρ ++ lastOf (i ∷ π) ∷ []) (sym climbed-path)
             ∙ ap (λ (j : ℕ). pathAt xs (climb left k) ++ j ∷ []) (sym p)
 
-    -- ---- to the root
+    -- ---- one climb, and then to the root
+    record Up (k : ℕ) : Type 0 where
+      before : climb left k < k
+      less : length (pathAt xs k) ≡ suc (length (pathAt xs (climb left k)))
+      last : pathAt xs k ≡ pathAt xs (climb left k) ++ positionIn left k ∷ []
+
+    one-up : (k : ℕ) → k < length xs → 1 ≤ length (pathAt xs k) → Up k
+    one-up k h b = go (pathAt xs k) refl
+      where
+        go : (ρ : List ℕ) → pathAt xs k ≡ ρ → Up k
+        go [] q = absurd (omega (arith, ap length q))
+        go (i ∷ π) q = record { before = earlier k h i π q; less = climbed-less k h i π q; last = last-is k h i π q }
+
     ends-at-root : (n k : ℕ) → k < length xs → length (pathAt xs k) ≡ n → climbs left n k ≡ 0
     unfolding climbs
     ends-at-root zero k h l = root-first k h (nothing-long (pathAt xs k) l)
-    ends-at-root (suc n) k h l = go (pathAt xs k) refl (λ j b m. ends-at-root n j b m)
-      where
-        go : (ρ : List ℕ) → pathAt xs k ≡ ρ → ((j : ℕ) → j < length xs → length (pathAt xs j) ≡ n → climbs left n j ≡ 0) → climbs left n (climb left k) ≡ 0
-        go [] q f = absurd (omega (arith, ap length q))
-        go (i ∷ π) q f = f (climb left k) (omega (arith, earlier k h i π q)) (omega (arith, climbed-less k h i π q))
+    ends-at-root (suc n) k h l =
+        let u = one-up k h (omega arith) in
+        ends-at-root n (climb left k) (omega (arith, u .before)) (omega (arith, u .less))
 
     not-sooner : (t k : ℕ) → k < length xs → t < length (pathAt xs k) → climbs left t k ≡ 0 → ⊥
     unfolding climbs
     not-sooner zero k h l z =
         let p : pathAt xs k ≡ [] = ap (pathAt xs) z ∙ first-listed d xs zs (omega arith) e in
         omega (arith, ap length p)
-    not-sooner (suc t) k h l z = go (pathAt xs k) refl (λ j b m y. not-sooner t j b m y)
-      where
-        go : (ρ : List ℕ) → pathAt xs k ≡ ρ → ((j : ℕ) → j < length xs → t < length (pathAt xs j) → climbs left t j ≡ 0 → ⊥) → ⊥
-        go [] q f = omega (arith, ap length q)
-        go (i ∷ π) q f = f (climb left k) (omega (arith, earlier k h i π q)) (omega (arith, climbed-less k h i π q)) z
+    not-sooner (suc t) k h l z =
+        let u = one-up k h (omega arith) in
+        not-sooner t (climb left k) (omega (arith, u .before)) (omega (arith, u .less)) z
 
     pub climbs-up : (k : ℕ) → k < length xs → Climbs xs left k
     climbs-up k h =
         record {
           depth = depth-is k h;
-          up = λ b. go (pathAt xs k) refl (omega (arith, depth-is k h));
+          up = λ b. let u = one-up k h (omega (arith, depth-is k h)) in (u .before, u .last);
           ends = ap (λ (n : ℕ). climbs left n k) (depth-is k h) ∙ ends-at-root (length (pathAt xs k)) k h refl;
           sooner = λ t b z. not-sooner t k h (omega (arith, depth-is k h)) z;
           root = λ z. climb-root k h (nothing-long (pathAt xs k) (sym (depth-is k h) ∙ z));
         }
-      where
-        go : (ρ : List ℕ) → pathAt xs k ≡ ρ → 1 ≤ length (pathAt xs k) → (climb left k < k) × (pathAt xs k ≡ pathAt xs (climb left k) ++ positionIn left k ∷ [])
-        go [] q b = absurd (omega (arith, ap length q))
-        go (i ∷ π) q b = (earlier k h i π q, last-is k h i π q)

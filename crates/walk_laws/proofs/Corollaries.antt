@@ -22,7 +22,7 @@ use Rattle.events.specs.Lay.{room}
 use Rattle.paths.specs.Paths.{rootStand, child, viewIn, countIn, here, down, Item, item, under, gather, tree, paths}
 use Rattle.paths.specs.Shown.{Walks}
 use Rattle.paths.proofs.Laid.{room-fits}
-use Rattle.walk_laws.specs.Promise.{IsUtf8, Leads, Readable, AllRead, Everything, UpTo101, eventsIn, written, depthIn, climbs, value-refused, wrong, Halt, Room}
+use Rattle.walk_laws.specs.Promise.{IsUtf8, Leads, Readable, AllRead, Everything, UpTo101, eventsIn, written, depthIn, positionIn, climb, climbs, pathAt, Climbs, value-refused, wrong, Halt, Room}
 use Rattle.walk_laws.specs.Promise.{Standing, every, before}
 use Rattle.walk_laws.proofs.Reach.{reach}
 use Rattle.walk_laws.proofs.Stops.{events-length, stop-room}
@@ -172,7 +172,37 @@ stands d out (Stopped f p n) left w =
     let h = refusal d out (Stopped f p n) left w (paths d) (reach d) f p n .0 refl in
     (h .before, (before (reach d) h, h .count))
 
-pub climbs-home : (d out : List ℕ) (r : Walked) (left : List ℕ) → Walks d out r left → (k : ℕ) → k < eventCount r → climbs left (depthIn left k) k ≡ 0
+-- what that means by the numbers of the list alone: unless it is the root, an event names one that stands before it and whose depth is one less; as many
+-- climbs as the depth lead to event 0, fewer do not; and event 0 names itself
+pub record Home (left : List ℕ) (k : ℕ) : Type 0 where
+  pub earlier : 1 ≤ depthIn left k → climb left k < k
+  pub shallower : 1 ≤ depthIn left k → depthIn left k ≡ depthIn left (climb left k) + 1
+  pub ends : climbs left (depthIn left k) k ≡ 0
+  pub sooner : (t : ℕ) → t < depthIn left k → climbs left t k ≡ 0 → ⊥
+  pub root : k ≡ 0 → climb left k ≡ 0
+
+-- from event 0 no climb is needed
+shallow : (left : List ℕ) (k : ℕ) → k ≡ 0 → ((t : ℕ) → t < depthIn left k → climbs left t k ≡ 0 → ⊥) → depthIn left k ≡ 0
+unfolding climbs
+shallow left k z f = go (depthIn left k) refl
+  where
+    go : (n : ℕ) → depthIn left k ≡ n → depthIn left k ≡ 0
+    go zero q = q
+    go (suc n) q = absurd (f 0 (omega arith) z)
+
+pub climbs-home : (d out : List ℕ) (r : Walked) (left : List ℕ) → Walks d out r left → (k : ℕ) → k < eventCount r → Home left k
 climbs-home d out r left w k h =
     let (xs, (s, e)) = stands d out r left w in
-    climbing d out r left w xs s k (omega arith) .ends
+    let each : (j : ℕ) → j < eventCount r → Climbs xs left j = λ j b. climbing d out r left w xs s j (omega arith) in
+    let c = each k h in
+    record {
+      earlier = λ b. c .up b .0;
+      shallower =
+          λ b.
+          let u = c .up b in
+          let v = each (climb left k) (omega (arith, u .0)) in
+          omega (arith, c .depth, v .depth, ap length (u .1), length-append (pathAt xs (climb left k)) (positionIn left k ∷ []));
+      ends = c .ends;
+      sooner = c .sooner;
+      root = λ z. c .root (shallow left k z (c .sooner));
+    }

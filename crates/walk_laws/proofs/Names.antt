@@ -11,7 +11,7 @@ use lib.Seq.{take-append-seam}
 use borrow.Author.Tests.{ne-eqb}
 use Rattle.paths.specs.Judged.{Stand}
 use Rattle.paths.specs.Paths.{rootStand, child, viewIn, countIn, Item, under, gather, tree, paths, lastOf}
-use Rattle.paths.proofs.Scan.{last-snoc}
+use Rattle.paths.proofs.Index.{last-snoc}
 use Rattle.walk_laws.specs.Promise.{eventAt, nameAfter, namesAfter}
 
 -- ---- a path after another

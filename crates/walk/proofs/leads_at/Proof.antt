@@ -2,7 +2,6 @@
 -- Assumes nothing.
 use Rattle.walk.proofs.Cases.{no-leads, some-leads}
 use borrow.Author.Needs.{needs}
-use denote.Ref.{now}
 use Rattle.walk.proofs.leads_at.Statement.{statement}
 use Rattle.walk.proofs.leads_at.Tie as tie
 use Rattle.walk.proofs.leads_at.Reads as reads
