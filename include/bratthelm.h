@@ -12,7 +12,7 @@
  *
  * Every pointer is valid for as many items as the length after it says, and is not null, even where that is 0. What a function writes to
  * (answer, events, bytes, text) overlaps nothing else that is lent to the call, and no other thread touches it meanwhile. Nothing else is
- * asked: any bytes, any numbers and any lengths have their answer. No function keeps a pointer or allocates, and the walk needs some 30,800 bytes
+ * asked: any bytes, any numbers and any lengths have their answer. No function keeps a pointer or allocates, and the walk needs some 31,100 bytes
  * of stack at most.
  *
  * The rows
@@ -27,6 +27,8 @@
  *     6 a string    12   start       length       0        bytes of the document; whether they are UTF-8 the walk alone asks
  *     7 opaque      15   start       length       column type
  *     8 container    c   start       size         count    c is 0 small object, 1 large object, 2 small array, 3 large array
+ *   an event of the walk, 9 numbers, as bratthelm_walk says: 0 type code, 1 depth, 2 position, 3 and 4 key's start and length, 5 and 6 value's start and
+ *     length, 7 count or column type, 8 the index of its container's event
  *   a key, 3 numbers: 1, start, length; or 0 0 0 for nothing
  *   a count, an order, a number of bytes or of characters, 1 number
  *   how a walk ended, 2 numbers: the count of events, and the place of the fault, which is 0 where there is none. Of BRATTHELM_ERR_UTF8 it is
@@ -151,10 +153,11 @@ uint32_t bratthelm_key_at(const uint8_t *doc, size_t doc_len, uint32_t code, uin
 uint32_t bratthelm_element_count(const uint8_t *doc, size_t doc_len, uint32_t code, uint32_t start, uint32_t size, uint32_t count,
                                  uint32_t *answer, size_t answer_len);
 
-/* Every path of the document, a path before what is below it and otherwise by position, as events of nine numbers: type code, depth, position, key's start, key's
- * length, value's start, value's length, one that is a container's count, an opaque value's column type or else 0, and the index of its container's event.
- * There is room for events_len / 9 of them. The row is the count of events and the place of the fault; it is stored, and that many events stand, also where a
- * number is returned: 1 to 12.
+/* Every path of the document, a path before what is below it and otherwise by position, as events of nine numbers: type code (0 small object, 1 large object,
+ * 2 small array, 3 large array, 4 literal, 5 Int16, 6 UInt16, 7 Int32, 8 UInt32, 9 Int64, 10 UInt64, 11 double, 12 string, 15 opaque), depth, position, key's
+ * start, key's length, value's start, value's length, one that is a container's count, an opaque value's column type or else 0, and the index of its
+ * container's event. There is room for events_len / 9 of them. The row is the count of events and the place of the fault; it is stored, and that many events
+ * stand, also where a number is returned: 1 to 12.
  * To climb: the container of event i is event events[BRATTHELM_EVENT_LEN * i + 8], which stands before it. From any event that stands, also where a number is
  * returned, as many such steps as its depth lead to the root. The root is event 0, of depth 0, and its own number is 0 too: stop there. */
 uint32_t bratthelm_walk(const uint8_t *doc, size_t doc_len, uint32_t *events, size_t events_len, uint32_t *answer, size_t answer_len);

@@ -32,7 +32,8 @@ pub struct Event {
     pub position: u32,
     /// A member's key; else 0 and 0.
     pub key: Span,
-    /// The bytes of a string or an opaque value without their length field, of a number or a literal, or all of a container from its count on.
+    /// The bytes of a string or an opaque value without their length field, of a number or a literal, or all of a container from its count on; 0 and 0 for the
+    /// empty document.
     pub part: Span,
     /// A container's count, an opaque value's column type, else 0.
     pub extra: u32,
@@ -75,7 +76,7 @@ impl core::error::Error for Stopped {}
 /// Walks a document: 1 to 12. `events` has room for an event for each nine numbers, [`EVENT_LEN`]; those behind the last event stay as they were.
 ///
 /// Many paths may lead to the same bytes, so a hostile document can fill any buffer: the length of `events` is what bounds the work. A walk takes
-/// some 30,800 bytes of stack at most, whatever the document.
+/// some 31,100 bytes of stack at most, whatever the document.
 pub fn walk<'e>(doc: &[u8], events: &'e mut [u32]) -> Walk<'e> {
     let mut row = [0; 2];
     let returned = calls::walk(doc, events, &mut row);
@@ -109,20 +110,28 @@ impl Walk<'_> {
     }
 
     /// The event of the container of an event of this walk; `None` for the root. As many steps as its depth lead from an event to the root, also where
-    /// the walk stopped later.
+    /// the walk stopped later. Inside a loop over the events loop over a clone, since a loop takes its iterator.
     ///
     /// ```
     /// use bratthelm::{walk, EVENT_LEN};
     /// use std::iter::successors;
     ///
-    /// // true inside two arrays, behind an empty one, in an array
+    /// # fn main() -> Result<(), Box<dyn std::error::Error>> {
+    /// // an array of an empty array and of true inside two arrays
     /// let doc = b"\x02\x02\0\x1C\0\x02\x0A\0\x02\x0E\0\0\0\x04\0\x01\0\x0E\0\x02\x07\0\x01\0\x07\0\x04\x01\0";
     /// let mut events = [0; 64 * EVENT_LEN];
     /// let walk = walk(doc, &mut events);
-    /// let literal = walk.event(4).unwrap();
-    /// // from the literal to the root, each with its position in its container
-    /// let climb: Vec<_> = successors(Some(literal), |&event| walk.parent(event)).map(|event| (event.depth, event.position)).collect();
-    /// assert_eq!(climb, [(3, 0), (2, 0), (1, 1), (0, 0)]);
+    /// for event in walk.clone() {
+    ///     let event = event?;
+    ///     // from the event up to the root, each with its depth and its position
+    ///     let climb: Vec<_> = successors(Some(event), |&event| walk.parent(event)).map(|event| (event.depth, event.position)).collect();
+    ///     assert_eq!(climb.len(), event.depth as usize + 1);
+    ///     if event.code == 4 {
+    ///         assert_eq!(climb, [(3, 0), (2, 0), (1, 1), (0, 0)]);
+    ///     }
+    /// }
+    /// # Ok(())
+    /// # }
     /// ```
     pub fn parent(&self, event: Event) -> Option<Event> {
         if event.depth == 0 {

@@ -26,6 +26,13 @@ CALLS = ['read', 'print', 'compare', 'write', 'parse']
 SIZES = ['(4,2)', '(20,6)', '(65,30)']
 DECIMALS = [(call + size, call + ' ' + size, 1000) for size in SIZES for call in CALLS]
 CASES = DOCUMENTS + DECIMALS
+DEEPEST = {
+    'arrays': '100 arrays',
+    'objects': '100 objects',
+    'turns': 'both by turns',
+    'objects-refused': '101 objects, refused by 11',
+    'large-objects-refused': '101 large objects, refused by 11',
+}
 
 
 def output(*command):
@@ -120,8 +127,7 @@ def tables(measured):
             documents.append([name, whole(size), whole(values), *cost, *(short(count / values) for count in counts), f'{counts[0] / size:.2f}'])
         else:
             decimals.append([name, *cost])
-    stack = [[f'100 {name}' if name != 'turns' else 'both by turns', whole(size), whole(values), whole(ours), whole(rust)]
-             for name, (size, values, ours, rust) in measured.stack.items()]
+    stack = [[DEEPEST[name], *map(whole, numbers)] for name, numbers in measured.stack.items()]
     heap = [[name, *(whole(number) for number in measured.heap[case])] for case, name, _ in CASES]
     count = ['instructions', 'Rust', 'ratio']
     return [

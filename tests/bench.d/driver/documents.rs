@@ -82,6 +82,33 @@ pub fn deepest() -> [Vec<u8>; 3] {
     [nested(|_| false), nested(|_| true), nested(|level| level % 2 == 0)]
 }
 
+/// How many containers are one too many.
+pub const TOO_DEEP: usize = 101;
+
+/// So many objects, and so many large ones, which are refused at the deepest entry.
+pub fn too_deep() -> [Vec<u8>; 2] {
+    let objects = document(&(0..TOO_DEEP).fold(Truth(true), |inner, _| Object(vec![("in", inner)])));
+    [objects, (0..TOO_DEEP).fold(vec![4, 1], |inner, _| large_object(&inner))]
+}
+
+/// A large object of one value, which stands behind the key unless it is the literal, which stands in the entry.
+fn large_object(value: &[u8]) -> Vec<u8> {
+    let (header, key) = (8 + 6 + 5u32, b"in");
+    let (code, content) = (value[0], &value[1..]);
+    let behind = header + key.len() as u32;
+    let (word, rest) = if code == 4 { (content[0] as u32, &[][..]) } else { (behind, content) };
+    let mut bytes = vec![1];
+    bytes.extend(1u32.to_le_bytes());
+    bytes.extend((behind + rest.len() as u32).to_le_bytes());
+    bytes.extend(header.to_le_bytes());
+    bytes.extend((key.len() as u16).to_le_bytes());
+    bytes.push(code);
+    bytes.extend(word.to_le_bytes());
+    bytes.extend(key);
+    bytes.extend(rest);
+    bytes
+}
+
 fn many(most: usize, one: impl Fn(usize) -> Node) -> Vec<u8> {
     let mut items = Vec::new();
     // The type byte and the largest header without entries; an entry of a large array.

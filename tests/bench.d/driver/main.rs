@@ -353,6 +353,12 @@ fn stack(folder: &Path) {
         let rust = stack_of(move |events| listing::list(doc, events).unwrap());
         println!("{name} {} {values} {ours} {rust}", doc.len());
     }
+    for (name, doc) in ["objects-refused", "large-objects-refused"].into_iter().zip(documents::too_deep()) {
+        let doc: &'static [u8] = doc.leak();
+        let ours = stack_of(move |events| ours::walk(doc, events).map_or_else(|number| number as usize, |_| panic!("{name} is listed")));
+        let rust = stack_of(move |events| listing::list(doc, events).map_or(0, |_| panic!("{name} is listed")));
+        println!("{name} {} {} {ours} {rust}", doc.len(), documents::TOO_DEEP + 1);
+    }
 }
 
 fn stack_of(call: impl FnOnce(&mut [u32]) -> usize + Send + 'static) -> usize {
