@@ -1,10 +1,11 @@
 #!/usr/bin/env python3
 """A second reader of binary JSON documents and packed decimals.
 
-It was written from document 01 (scope and rules), from document 02's requests W2
-(negative zero), W5 (where a text breaks) and W6 (an event's container) and from
-ANSWERS.md (the requests) alone, and shares no code with the other readers. It
-reads requests from standard input, one to a line, and writes one line for each.
+It was written from document 01 (scope and rules), from document 02's request W2
+(negative zero) and from ANSWERS.md (the requests) alone, and shares no code with
+the other readers. For W5 (where a text breaks) and W6 (an event's container) it was
+changed by those who changed the code. It reads requests from standard input, one to
+a line, and writes one line for each.
 
 Negative zero
 -------------
