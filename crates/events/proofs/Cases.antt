@@ -8,8 +8,7 @@ use native.Mathlib.Omega.{arith}
 use native.Mathlib.Numerals.{add-one}
 use lib.ListN.{length, getD, set, take, drop, length-append, List·getD-append}
 use lib.Seq.{sets, sets-eq, length-take-le, getD-append-add}
-use lib.Dec.{ltb}
-use borrow.Author.Tests.{le-ltb, lt-ltb, eq-eqb, ne-eqb, ltb-true}
+use borrow.Author.Tests.{le-ltb, lt-ltb, eq-eqb, ne-eqb}
 use Rattle.layout.proofs.Cond.{yes, no}
 use Rattle.layout.specs.declared.Kind.{Kind}
 use Rattle.codes.specs.declared.types.JsonbType.{JsonbType}
@@ -69,15 +68,6 @@ module _ (out : List ℕ) where
   pub room-all : length out / wide ≤ 4294967295 → length out / wide ≡ room out
   unfolding room
   room-all h = no _ (le-ltb 4294967295 (length out / wide) h) refl
-
-  -- where there is room for an event, its numbers lie within the list
-  room-by : (n : ℕ) (b : Bool) → ltb 4294967295 (length out / wide) ≡ b → n < cond b 4294967295 (length out / wide) → wide * n + wide ≤ length out
-  room-by n true e h = omega (arith, ltb-true 4294967295 (length out / wide) e)
-  room-by n false e h = omega arith
-
-  pub room-for : (n : ℕ) → n < room out → wide * n + wide ≤ length out
-  unfolding room
-  room-for n h = room-by n (ltb 4294967295 (length out / wide)) refl h
 
 -- numbers stored one after the other, at i + k and up, as code stores them
 abbrev stores : List ℕ → ℕ → ℕ → List ℕ → List ℕ

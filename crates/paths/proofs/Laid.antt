@@ -1,20 +1,20 @@
 -- What `lay` leaves is what `Shown` says: the events for which there is room, one after the other from the front, and then the rest as it was.
 -- Assumes nothing.
 use mathlib.Core.Path.{_≡_, refl, sym, ap, _∙_}
-use mathlib.Core.Bool.{Bool, true, false, cond}
+use mathlib.Core.Bool.{Bool, cond}
 use mathlib.Core.List.{List, [], _∷_, _++_, append-assoc}
-use Prim.Native.Nat.{ℕ, zero, suc, _+_, _*_, _-_, _/_, _≤_}
+use Prim.Native.Nat.{ℕ, zero, suc, _+_, _*_, _-_, _≤_}
 use native.Mathlib.Omega.{arith}
 use lib.ListN.{length, drop, length-append, length-drop}
 use lib.Seq.{sets, sets-eq, take-append-seam, drop-append-add, drop-drop}
-use lib.Dec.{ltb}
-use borrow.Author.Tests.{ltb-true, le-ltb, lt-ltb}
+use borrow.Author.Tests.{le-ltb, lt-ltb}
 use Rattle.events.specs.declared.Event.{Event}
 use Rattle.events.specs.declared.Walked.{Walked}
 use Rattle.events.specs.declared.Walked.the-variants.{Done, Stopped}
 use Rattle.events.specs.Events.{numbers, wide}
 use Rattle.events.specs.Listing.{Listing, end, fault, event}
 use Rattle.events.specs.Lay.{Laid, laid, lay, put, room}
+use Rattle.events.proofs.Room.{room-fits, room-same}
 use Rattle.paths.specs.Shown.{cut, flat, Answer, told, ends, over}
 
 -- ---- how a listing ends, as a case of the code's answer
@@ -38,20 +38,6 @@ told-same (Stopped f p n) (Stopped g q m) e =
     cc
 told-same (Done n) (Stopped g q m) e = let h : _≡_ {A = ℕ} 1 2 = ap (λ (a : Answer). length (a .values)) e in absurd (omega arith)
 told-same (Stopped f p n) (Done m) e = let h : _≡_ {A = ℕ} 2 1 = ap (λ (a : Answer). length (a .values)) e in absurd (omega arith)
-
--- ---- room
--- there is room for the events that fit, and it depends on the length alone
-pub room-fits : (out : List ℕ) → wide * room out ≤ length out
-unfolding room
-room-fits out = go (ltb 4294967295 (length out / wide)) refl
-  where
-    go : (b : Bool) → ltb 4294967295 (length out / wide) ≡ b → wide * cond b 4294967295 (length out / wide) ≤ length out
-    go true q = let h = ltb-true 4294967295 (length out / wide) q in omega arith
-    go false q = omega arith
-
-pub room-same : (a b : List ℕ) → length a ≡ length b → room a ≡ room b
-unfolding room
-room-same a b h = ap (λ (n : ℕ). cond (ltb 4294967295 (n / wide)) 4294967295 (n / wide)) h
 
 -- ---- one event
 -- numbers go after the front, over the first of the back

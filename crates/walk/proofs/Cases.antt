@@ -3,11 +3,11 @@
 use mathlib.Core.Path.{_≡_, refl, sym, ap, subst, _∙_}
 use mathlib.Core.Bool.{Bool, true, false, cond}
 use mathlib.Core.List.{List}
-use Prim.Native.Nat.{ℕ, _+_, _*_, _-_, _/_, _%_, _<_, _≤_}
+use Prim.Native.Nat.{ℕ, _+_, _*_, _-_, _%_, _<_, _≤_}
 use lib.Dec.{ltb, eqb}
 use native.Mathlib.Omega.{arith}
 use lib.ListN.{length, getD, take, drop, length-set}
-use borrow.Author.Tests.{le-ltb, lt-ltb, ltb-false, eqb-true, eqb-false, eq-eqb, ne-eqb}
+use borrow.Author.Tests.{le-ltb, lt-ltb, eqb-true, eqb-false, eq-eqb, ne-eqb}
 use Rattle.layout.proofs.Cond.{yes, no}
 use Rattle.utf8.specs.declared.Utf8Check.{Utf8Check}
 use Rattle.utf8.specs.declared.Utf8Check.the-variants.{Valid, Bad}
@@ -38,7 +38,7 @@ use Rattle.events.specs.Listing.{end, event}
 use Rattle.root_event.specs.Root.{firstByte, textNode, valueNode, readNode, rootNode}
 use Rattle.paths.specs.Judged.{Judged, Stand, good, spot, textThen, valueJudged, keyJudged, judged, node, childless}
 use Rattle.events.specs.Lay.{Laid, laid, lay, put, room}
-use Rattle.events.proofs.Cases.{room-for}
+use Rattle.events.proofs.Room.{room-for, room-small}
 use Rattle.sight.specs.declared.Sight.{Sight}
 use Rattle.sight.specs.Sights.{sightOf, sightAt}
 use Rattle.sight.specs.Course.{Fit}
@@ -83,16 +83,7 @@ same-kind k e = ap (λ (b : Bool). kind b (k .large)) (sym e)
 pub never : {A : Type 0} {f p n m : ℕ} → Stopped f p n ≡ Done m → A
 never e = let z : _≡_ {A = ℕ} 0 1 = cc in absurd (omega arith)
 
--- room is never above its bound
-room-small : (out : List ℕ) → room out ≤ 4294967295
-unfolding room
-room-small out = go (ltb 4294967295 (length out / wide)) refl
-  where
-    go : (b : Bool) → ltb 4294967295 (length out / wide) ≡ b → cond b 4294967295 (length out / wide) ≤ 4294967295
-    go true e = omega arith
-    go false e = ltb-false 4294967295 (length out / wide) e
-
--- so that the index of an event fits into 32 bits
+-- the index of an event fits into 32 bits
 pub last-small : {d out : List ℕ} {n : ℕ} → Last d out n → n ≤ 4294967295
 last-small {out = out} l = omega (arith, l .fits, room-small out)
 

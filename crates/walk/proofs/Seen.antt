@@ -33,8 +33,8 @@ use Rattle.events.specs.declared.Walked.the-variants.{Done, Stopped}
 use Rattle.events.specs.Events.{span, numbers, wide, kindCode, codeOf, partOf, extraOf, eventOf}
 use Rattle.events.specs.Text.{textAt, valueText}
 use Rattle.events.specs.Lay.{Laid, laid, lay, put, room}
-use Rattle.events.proofs.Cases.{room-for, run-of-stores, put-number}
-use Rattle.paths.proofs.Laid.{room-same}
+use Rattle.events.proofs.Cases.{run-of-stores, put-number}
+use Rattle.events.proofs.Room.{room-for, room-same}
 use Rattle.sight.specs.declared.Sight.{Sight}
 use Rattle.sight.specs.Sights.{sightOf}
 use Rattle.sight.specs.Course.{Numbered, Sound, SoundValue}

@@ -21,7 +21,7 @@ use Rattle.paths.specs.Judged.{Stand}
 use Rattle.events.specs.Lay.{room}
 use Rattle.paths.specs.Paths.{rootStand, child, viewIn, countIn, here, down, Item, item, under, gather, tree, paths}
 use Rattle.paths.specs.Shown.{Walks}
-use Rattle.paths.proofs.Laid.{room-fits}
+use Rattle.events.proofs.Room.{room-fits}
 use Rattle.walk_laws.specs.Promise.{IsUtf8, Leads, Readable, AllRead, Everything, UpTo101, eventsIn, written, depthIn, positionIn, climb, climbs, pathAt, Climbs, value-refused, wrong, Halt, Room}
 use Rattle.walk_laws.specs.Promise.{Standing, every, before}
 use Rattle.walk_laws.proofs.Reach.{reach}

@@ -4,7 +4,7 @@
 use mathlib.Core.Path.{_≡_, refl, sym, subst}
 use mathlib.Core.Bool.{Bool, true, false, cond}
 use mathlib.Core.List.{List, [], _∷_}
-use Prim.Native.Nat.{ℕ, zero, suc, _+_, _/_, _≤_, _<_}
+use Prim.Native.Nat.{ℕ, zero, suc, _+_, _≤_, _<_}
 use native.Mathlib.Omega.{arith}
 use lib.Dec.{ltb, eqb}
 use lib.ListN.{length, getD}
@@ -22,9 +22,9 @@ use Rattle.content.specs.declared.Read.the-variants as read
 use Rattle.gate.specs.Said.{says, readSaid}
 use Rattle.jsonb.specs.Views.{typedAt, rootRead}
 use Rattle.events.specs.declared.Walked.the-variants.{Done, Stopped}
-use Rattle.events.specs.Events.{wide}
 use Rattle.events.specs.Listing.{Listing, end, fault, event}
 use Rattle.events.specs.Lay.{room}
+use Rattle.events.proofs.Room.{room-small}
 use Rattle.paths.specs.Judged.{Stand}
 use Rattle.paths.specs.Paths.{here, Item, paths, scan}
 use Rattle.paths.specs.Shown.{cut, ends, shown, Walks, Answer}
@@ -48,14 +48,6 @@ within-room end k n = omega arith
 within-room (fault f p) k n = omega arith
 within-room (event e p l) zero n = omega arith
 within-room (event e p l) (suc k) n = omega (arith, within-room l k (n + 1))
-
-room-small : (out : List ℕ) → room out ≤ 4294967295
-unfolding room
-room-small out = go (ltb 4294967295 (length out / wide)) refl
-  where
-    go : (b : Bool) → ltb 4294967295 (length out / wide) ≡ b → cond b 4294967295 (length out / wide) ≤ 4294967295
-    go true q = omega arith
-    go false q = ltb-false 4294967295 (length out / wide) q
 
 module _ (d out : List ℕ) where
   told-small : counted (ends (shown d (room out)) 0 .values) ≤ 4294967295

@@ -2,7 +2,8 @@
 -- Assumes nothing.
 use denote.Ref.{now}
 use native.Mathlib.Omega.{arith}
-use Rattle.events.proofs.Cases.{no-room, put-down, room-for}
+use Rattle.events.proofs.Cases.{no-room, put-down}
+use Rattle.events.proofs.Room.{room-for}
 use borrow.Author.Needs.{needs}
 use Rattle.root_event.proofs.put_value.Statement.{statement}
 use Rattle.root_event.proofs.put_value.Tie as tie

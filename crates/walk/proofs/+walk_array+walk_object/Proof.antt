@@ -24,7 +24,7 @@ use Rattle.walk.proofs.+walk_array+walk_object.Lts-walk_object as walk-
 use Rattle.walk.proofs.+walk_array+walk_object.{statement}
 use Rattle.walk.proofs.+walk_array+walk_object.Tie.{close}
 use Rattle.walk.proofs.Node.{same, kept, done-last, array-so, object-so, nothing-so, container-below, nothing-below}
-use Rattle.paths.proofs.Laid.{room-same}
+use Rattle.events.proofs.Room.{room-same}
 use Rattle.walk.proofs.Cases.{last-small}
 use Rattle.walk.proofs.Going.{Going, Came, start, over, deep, stopped, came, stopped-below, on}
 

@@ -3,7 +3,7 @@
 use Rattle.texts.proofs.Cases.{break-near}
 use Rattle.walk.proofs.Tested.{seen-by, seen-refused, seen-breaks, seen-no-room, seen-put}
 use Rattle.walk.specs.Seen.{putSeen}
-use Rattle.events.proofs.Cases.{room-for}
+use Rattle.events.proofs.Room.{room-for}
 use borrow.Author.Tests.{not-true, not-false}
 use denote.Ref.{now}
 use native.Mathlib.Omega.{arith}
