@@ -10,7 +10,7 @@ const NEWLINE: u8 = 10;
 
 // What is known between two reads: so many bytes of a line that has not ended stand at the front of the buffer, or the line was too long and is skipped;
 // where the output goes on; and whether there is nothing more to read.
-#[derive(Drop)]
+#[derive(Clone, Copy)]
 struct State {
     held: usize,
     is_skipped: bool,
@@ -48,7 +48,7 @@ fn put_held(out: &mut [u8], at: usize, held: &[u8], from: usize, end: usize) -> 
 }
 
 // What is left of the held bytes begins at a place.
-#[derive(Drop)]
+#[derive(Clone, Copy)]
 struct Rest {
     from: usize,
     at: usize,

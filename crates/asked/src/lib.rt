@@ -3,7 +3,7 @@ use hexadecimal::Taken;
 use request::Parsed;
 
 // What is asked.
-#[derive(Drop)]
+#[derive(Clone, Copy)]
 pub enum Asked {
     Walk,
     Root,
@@ -29,7 +29,7 @@ pub enum Asked {
 }
 
 // What stands behind the numbers.
-#[derive(Drop)]
+#[derive(Clone, Copy)]
 pub enum Form {
     // Nothing: the numbers are all.
     Numbers,

@@ -16,14 +16,14 @@ use length_field::Length;
 use value::{Number, Scalar, Span, Value, View};
 
 // A value, or a refusal.
-#[derive(Drop)]
+#[derive(Clone, Copy)]
 pub enum Read {
     Value(Value),
     Refused(u8),
 }
 
 // The bytes after a length field, or a refusal.
-#[derive(Drop)]
+#[derive(Clone, Copy)]
 pub enum Part {
     Bytes(Span),
     Refused(u8),

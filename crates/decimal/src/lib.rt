@@ -16,7 +16,7 @@ pub use order::Compared;
 
 // A decimal: as many integral and fractional digits, a sign, and the digits in groups of nine from the point outwards. The groups of
 // the fraction are stored as if each had nine digits, unused groups are 0, and a zero has no sign.
-#[derive(Drop)]
+#[derive(Clone, Copy)]
 pub struct Decimal {
     pub intg: usize,
     pub frac: usize,
@@ -25,7 +25,7 @@ pub struct Decimal {
 }
 
 // A decimal, or a refusal with positive 0. The refusal is 0 where there is none.
-#[derive(Drop)]
+#[derive(Clone, Copy)]
 pub struct Answer {
     pub refusal: u8,
     pub decimal: Decimal,

@@ -21,7 +21,7 @@ pub fn put_utf8(out: &mut [u8], at: usize, text: &[u8]) -> usize {
 // ---- iterations
 
 // What is stepped over.
-#[derive(Drop)]
+#[derive(Clone, Copy)]
 pub enum Over {
     Elements,
     Keys,
@@ -29,7 +29,7 @@ pub enum Over {
 }
 
 // The place after a step, and where the output goes on.
-#[derive(Drop)]
+#[derive(Clone, Copy)]
 struct Stepped {
     pos: u32,
     at: usize,

@@ -11,7 +11,7 @@ use value::{Scalar, Span, Value};
 pub const WIDE: usize = 9;
 
 // An event: the type code, the depth, the position, the key's bytes, the value's bytes, a count or a column type, and the index of the container's event.
-#[derive(Drop)]
+#[derive(Clone, Copy)]
 pub struct Event {
     pub code: u32,
     pub depth: u32,
@@ -23,7 +23,7 @@ pub struct Event {
 }
 
 // Where a value stands: its path's length and last position, the index of its container's event, its entry's place, its key, and its own first byte.
-#[derive(Drop)]
+#[derive(Clone, Copy)]
 pub struct Spot {
     pub depth: u32,
     pub position: u32,
@@ -34,7 +34,7 @@ pub struct Spot {
 }
 
 // How a walk ends: after so many events, or at a refusal, its number and its place.
-#[derive(Drop)]
+#[derive(Clone, Copy)]
 pub enum Walked {
     Done {
         count: usize,

@@ -8,7 +8,7 @@ use header::Header;
 use value::{Span, Value, View};
 
 // An element: a value, nothing at or past the count, or a refusal.
-#[derive(Drop)]
+#[derive(Clone, Copy)]
 pub enum Found {
     Value(Value),
     Nothing,
@@ -16,7 +16,7 @@ pub enum Found {
 }
 
 // A key's bytes, nothing, or a refusal.
-#[derive(Drop)]
+#[derive(Clone, Copy)]
 pub enum Key {
     Key(Span),
     Nothing,
@@ -24,7 +24,7 @@ pub enum Key {
 }
 
 // Whether an entry may be looked at.
-#[derive(Drop)]
+#[derive(Clone, Copy)]
 pub enum Gate {
     Open,
     Nothing,

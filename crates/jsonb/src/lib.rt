@@ -13,7 +13,7 @@ pub use value::{CountOf, FieldOf, Number, Scalar, Span, Value, View};
 pub use views::{elem_at, element_count, key_at};
 
 // A count, or a refusal.
-#[derive(Drop)]
+#[derive(Clone, Copy)]
 pub enum Count {
     Count(u32),
     Refused(u8),

@@ -101,7 +101,7 @@ fn read_some(fd: i32, buf: &mut [u8], done: usize) -> isize
 }
 
 // What came until the input ended or the buffer was full, or a read that failed.
-#[derive(Drop)]
+#[derive(Clone, Copy)]
 enum Input {
     Bytes(usize),
     Failed,

@@ -4,7 +4,7 @@ ghost use Rattle.groups.specs.Numbers.{tab, leading_in};
 ghost use Rattle.kept.specs.Kept.{without_leading};
 
 // Integral digits, and the groups of a decimal that has so many.
-#[derive(Drop)]
+#[derive(Clone, Copy)]
 pub struct Kept {
     pub intg: usize,
     pub groups: [u32; 9],

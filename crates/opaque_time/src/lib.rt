@@ -8,7 +8,7 @@ use time::{MysqlTime, TimeRead, TimeType, TimeTypeOf};
 use value::{Scalar, Span, Value};
 
 // The type and the bytes of an opaque value whose column type is one of the four, nothing for others.
-#[derive(Drop)]
+#[derive(Clone, Copy)]
 pub enum TimePart {
     Bytes(TimeType, Span),
     Nothing,

@@ -6,7 +6,7 @@ ghost use Rattle.order.specs.Value.{magnitude, value_of, told, order_z, compare_
 ghost use Rattle.order.specs.Course.{NineGroups, placed, order_n};
 
 // The order of two decimals by value, or a refusal.
-#[derive(Drop)]
+#[derive(Clone, Copy)]
 pub enum Compared {
     Less,
     Equal,

@@ -4,7 +4,7 @@ use decimal_words::{put_counted, put_order};
 use output::{FILL, is_filled, put, put_front, put_front_hex, put_kept, put_refused, put_what};
 
 // Where the output goes on, and whether every byte outside the result is as it was.
-#[derive(Drop)]
+#[derive(Clone, Copy)]
 struct Written {
     at: usize,
     is_kept: bool,

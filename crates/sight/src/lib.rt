@@ -19,7 +19,7 @@ use length_field::Length;
 use value::Span;
 
 // What an event shows of a value, or a refusal with zeros. The refusal is 0 where there is none.
-#[derive(Drop)]
+#[derive(Clone, Copy)]
 pub struct Sight {
     pub refusal: u8,
     pub code: u32,

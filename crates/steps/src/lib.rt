@@ -9,47 +9,47 @@ use gate::{Found, Gate, Key, found_of, gate_at, key_of};
 use value::{Span, Value, View};
 
 // A place in an iteration over the elements of an array.
-#[derive(Drop)]
+#[derive(Clone, Copy)]
 pub struct Elements {
     pub view: View,
     pub at: u32,
 }
 
-#[derive(Drop)]
+#[derive(Clone, Copy)]
 pub struct Element {
     pub item: Found,
     pub next: Elements,
 }
 
 // A place in an iteration over the keys of an object.
-#[derive(Drop)]
+#[derive(Clone, Copy)]
 pub struct Keys {
     pub view: View,
     pub at: u32,
 }
 
-#[derive(Drop)]
+#[derive(Clone, Copy)]
 pub struct KeyStep {
     pub item: Key,
     pub next: Keys,
 }
 
 // A place in an iteration over the members of an object.
-#[derive(Drop)]
+#[derive(Clone, Copy)]
 pub struct Members {
     pub view: View,
     pub at: u32,
 }
 
 // A member: its key and its value, nothing, or a refusal.
-#[derive(Drop)]
+#[derive(Clone, Copy)]
 pub enum Member {
     Member(Span, Value),
     Nothing,
     Refused(u8),
 }
 
-#[derive(Drop)]
+#[derive(Clone, Copy)]
 pub struct MemberStep {
     pub item: Member,
     pub next: Members,

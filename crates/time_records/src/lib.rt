@@ -8,7 +8,7 @@ ghost use Rattle.time_records.specs.TimeRecords.{time_in, record_of, time_by};
 use time::{MysqlTime, TimeRead, TimeType, TimeTypeOf, TimeWritten};
 
 // A date or time by its numbers, where they are nine and the type is one of the four.
-#[derive(Drop)]
+#[derive(Clone, Copy)]
 pub enum TimeRecord {
     Time(MysqlTime),
     Nothing,

@@ -10,14 +10,14 @@ use pairs::{is_tail, pairs_end};
 
 // The answer: all of it is UTF-8, or the place where it breaks. That is the first byte that can neither begin nor continue a character there;
 // of a character that is cut at the end, the end.
-#[derive(Drop)]
+#[derive(Clone, Copy)]
 pub enum Utf8Check {
     Valid,
     Bad(usize),
 }
 
 // From one place on: the next place where a character begins, or the place of the break.
-#[derive(Drop)]
+#[derive(Clone, Copy)]
 enum Step {
     Next(usize),
     Stop(usize),

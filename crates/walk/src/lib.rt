@@ -24,7 +24,7 @@ use sight::Sight;
 use value::{Span, View};
 
 // What a value leads to: the elements of an array, the members of an object, or nothing.
-#[derive(Drop)]
+#[derive(Clone, Copy)]
 enum Leads {
     Array(View),
     Object(View),
@@ -32,7 +32,7 @@ enum Leads {
 }
 
 // What the listing of one entry came to, and what its value leads to where it was listed.
-#[derive(Drop)]
+#[derive(Clone, Copy)]
 struct Child {
     own: Walked,
     leads: Leads,

@@ -19,7 +19,7 @@ use Rattle.groups.proofs.Marks.{flip-front}
 use Rattle.groups.proofs.Store.{length_to}
 use Rattle.writing.proofs.Laid.{three}
 use Rattle.writing.proofs.Shade.{digits-shade, run-shade, shaded-append}
-use Rattle.groups.proofs.Sides.{length_run, to-sides}
+use Rattle.groups.proofs.SidesLaws.{length_run, to-sides}
 use Rattle.groups.proofs.Sizes.{width-le, packed-sides}
 
 -- ---- the places and the room that the three parts have

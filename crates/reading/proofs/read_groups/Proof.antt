@@ -13,7 +13,7 @@ use Rattle.groups.specs.Sides.{rest, lead_places, wholes}
 use Rattle.groups.specs.Packed.{digits_in}
 use Rattle.groups.proofs.Places.{power-is}
 use Rattle.groups.proofs.Sizes.{width-le, packed-sides}
-use Rattle.groups.proofs.Sides.{Cut, fields}
+use Rattle.groups.proofs.SidesLaws.{Cut, fields}
 use Rattle.reading.proofs.Sided.{lead_in, four_in, tail_in, lead-over, four-over, tail-over, four-in, tail-in, Filled, filled-lead, filled_more, filled-all}
 use Rattle.reading.proofs.read_groups.Statement.{statement}
 use Rattle.reading.proofs.read_groups.Tie as tie

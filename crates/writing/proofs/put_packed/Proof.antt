@@ -8,7 +8,7 @@ use Rattle.groups.specs.Sides.{rest, lead_places, wholes}
 use Rattle.groups.proofs.Accept.{well-digits}
 use Rattle.groups.proofs.Caps.{well-groups}
 use Rattle.groups.proofs.Sizes.{width-le}
-use Rattle.groups.proofs.Sides.{fields}
+use Rattle.groups.proofs.SidesLaws.{fields}
 use Rattle.writing.proofs.Parts.{places, packed-room, packed_all}
 use borrow.Author.Rules.{rules}
 use Rattle.writing.proofs.put_packed.Statement.{statement}

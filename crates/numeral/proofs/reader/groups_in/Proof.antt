@@ -2,7 +2,7 @@
 -- Assumes what the contract requires, and nothing else.
 use mathlib.Core.Path.{refl}
 use native.Mathlib.Omega.{arith}
-use Rattle.groups.proofs.Sides.{Cut, fields}
+use Rattle.groups.proofs.SidesLaws.{Cut, fields}
 use Rattle.numeral.proofs.Grouped.{lead-fits, wholes-fit, fraction-fits, tail-fits, tail-le, last-lt, filled-fits, with-fraction, without-fraction}
 use borrow.Author.Rules.{rules}
 use Rattle.numeral.proofs.reader.groups_in.Statement.{statement}
