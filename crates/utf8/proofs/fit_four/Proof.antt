@@ -36,7 +36,7 @@ returns-3 : tie.Need-returns-then-not-fits
 returns-3 c =
     fit-part (lit< tt)
     (onto (begun _ _ (omega arith) (lead4 _ (omega arith) (omega arith))) c.second_fits.ensures c.if-not-second_fits.false-raw)
-    c.before.fits-2.ensures c.if-not-fits.true-raw
+    c.before.fits.ensures c.if-not-fits.true-raw
 
 add-fits-2 : tie.Need-overflow_add-at-3
 add-fits-2 c = search rules
@@ -48,15 +48,15 @@ returns-4 : tie.Need-returns-then-not-fits-2
 returns-4 c =
     fit-part (lit< tt)
     (onto (onto (begun _ _ (omega arith) (lead4 _ (omega arith) (omega arith))) c.second_fits.ensures c.if-not-second_fits.false-raw)
-    c.before.before.before.fits-2.ensures c.if-not-fits.false-raw)
-    c.before.fits3.ensures c.if-not-fits-2.true-raw
+    c.before.before.before.fits.ensures c.if-not-fits.false-raw)
+    c.before.fits-2.ensures c.if-not-fits-2.true-raw
 
 returns-5 : tie.Need-returns
 returns-5 c =
     fit-whole
     (onto (onto (begun _ _ (omega arith) (lead4 _ (omega arith) (omega arith))) c.second_fits.ensures c.if-not-second_fits.false-raw)
-    c.before.before.before.fits-2.ensures c.if-not-fits.false-raw)
-    c.before.fits3.ensures c.if-not-fits-2.false-raw
+    c.before.before.before.fits.ensures c.if-not-fits.false-raw)
+    c.before.fits-2.ensures c.if-not-fits-2.false-raw
 
 pub fit_four_spec : {M : Type 1} → statement M
 fit_four_spec =

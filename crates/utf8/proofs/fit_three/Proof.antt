@@ -30,13 +30,13 @@ returns-2 : tie.Need-returns-then-not-fits
 returns-2 c =
     fit-part (lit< tt)
     (onto (begun _ _ (omega arith) (lead3 _ (omega arith) (omega arith))) c.second_fits.ensures c.if-not-second_fits.false-raw)
-    c.before.fits2.ensures c.if-not-fits.true-raw
+    c.before.fits.ensures c.if-not-fits.true-raw
 
 returns-3 : tie.Need-returns
 returns-3 c =
     fit-whole
     (onto (begun _ _ (omega arith) (lead3 _ (omega arith) (omega arith))) c.second_fits.ensures c.if-not-second_fits.false-raw)
-    c.before.fits2.ensures c.if-not-fits.false-raw
+    c.before.fits.ensures c.if-not-fits.false-raw
 
 pub fit_three_spec : {M : Type 1} → statement M
 fit_three_spec =

@@ -21,10 +21,10 @@ fits-requires : tie.Need-fits-requires
 fits-requires c κs = search rules
 
 returns-2 : tie.Need-returns-then-not-fits
-returns-2 c = fit-part (lit< tt) (begun _ _ (omega arith) (lead2 _ c.if-s-at-lt194.false (omega arith))) c.before.fits2.ensures c.if-not-fits.true-raw
+returns-2 c = fit-part (lit< tt) (begun _ _ (omega arith) (lead2 _ c.if-s-at-lt194.false (omega arith))) c.before.fits.ensures c.if-not-fits.true-raw
 
 returns-3 : tie.Need-returns
-returns-3 c = fit-whole (begun _ _ (omega arith) (lead2 _ c.if-s-at-lt194.false (omega arith))) c.before.fits2.ensures c.if-not-fits.false-raw
+returns-3 c = fit-whole (begun _ _ (omega arith) (lead2 _ c.if-s-at-lt194.false (omega arith))) c.before.fits.ensures c.if-not-fits.false-raw
 
 pub fit_two_spec : {M : Type 1} → statement M
 fit_two_spec =
