@@ -3,6 +3,7 @@ ghost use Rattle.std.specs.Prelude.{◌≡◌, ◌+◌, drop};
 ghost use Rattle.request.specs.Find.{before};
 ghost use Rattle.request.specs.Number.{number_of};
 
+#![tactic(auto)]
 // A number below 2 to the 32.
 #[derive(Drop)]
 pub enum Parsed {
