@@ -1,9 +1,10 @@
 // The parts of a request, a line of words with one space between two: where a byte stands, and the number that decimal digits write.
+#![tactic(auto)]
+
 ghost use Rattle.std.specs.Prelude.{◌≡◌, ◌+◌, drop};
 ghost use Rattle.request.specs.Find.{before};
 ghost use Rattle.request.specs.Number.{number_of};
 
-#![tactic(auto)]
 // A number below 2 to the 32.
 #[derive(Drop)]
 pub enum Parsed {
