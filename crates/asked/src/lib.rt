@@ -1,9 +1,11 @@
 // What a line asks, and its words.
+#![tactic(auto)]
+
 use hexadecimal::Taken;
 use request::Parsed;
 
 // What is asked.
-#[derive(Drop)]
+#[derive(Clone, Copy)]
 pub enum Asked {
     Walk,
     Root,
@@ -29,7 +31,7 @@ pub enum Asked {
 }
 
 // What stands behind the numbers.
-#[derive(Drop)]
+#[derive(Clone, Copy)]
 pub enum Form {
     // Nothing: the numbers are all.
     Numbers,
