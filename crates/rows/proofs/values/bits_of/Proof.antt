@@ -30,8 +30,8 @@ enum-known-x-4 c = search rules
 returns : tie.Need-returns-in-Int
 returns c =
     let x = c.in-Int in
-    let known = c.known_told-1 in
-    c.signed_bits.ensures ∙ ap (of_z w64) (to_z-of_z {w = w64} {z = x.n} (record { sfits = known.in-Int-own.given.0.1 })) ∙ ap bits_of (sym x.is)
+    let known = c.in-Int in
+    c.signed_bits.ensures ∙ ap (of_z w64) (to_z-of_z {w = w64} {z = x.n} (record { sfits = known.known_told-1-own.given.0.1 })) ∙ ap bits_of (sym x.is)
 
 returns-2 : tie.Need-returns-in-Uint
 returns-2 c = search rules
