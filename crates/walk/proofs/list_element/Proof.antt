@@ -46,7 +46,7 @@ returns c =
     let d = a.doc.now in
     let v = a.v in
     let place = ap (λ (q : ℕ). v.start + q) (c.value_place.ensures.0 ∙ ap (λ (k : Kind). value_place k v.count a.i) c.as_kind-k.ensures) in
-    entry-stopped d v a.i a.depth a.parent a.out.now a.n (record { start = 0; len = 0 }) (element-key d v a.i c.requires.0) (no-key-text d) c.as_kind-k.ensures place c.list_entry-code.ensures.0 c.list_entry-code.ensures.1 c.if-code-ne0.true c.Stopped-by.ensures
+    entry-stopped d v a.i a.depth a.parent a.out.now a.n (record { start = 0; len = 0 }) (element-key d v a.i c.requires.0) (no-key-text d) c.as_kind-k.ensures place c.list_entry-code.ensures.0 c.list_entry-code.ensures.1 c.if-code-ne0.true c.stopped_by.ensures
 
 put-path-requires : tie.Need-put_path-requires
 put-path-requires c κs =
@@ -69,8 +69,8 @@ leads-at-requires c κs =
     let a = c.args in
     let d = a.doc.now in
     let v = a.v in
-    let place = ap (λ (q : ℕ). v.start + q) (c.before.before.before.before.before.before.before.before.before.before.value_place.ensures.0 ∙ ap (λ (k : Kind). value_place k v.count a.i) c.before.before.before.before.before.before.before.before.before.before.before.before.as_kind-k.ensures) in
-    omega (arith, entry-open d v a.i a.depth a.parent a.out.now a.n (record { start = 0; len = 0 }) (element-key d v a.i c.requires.0) (no-key-text d) c.before.before.before.before.before.before.before.before.before.before.before.before.as_kind-k.ensures place c.before.before.before.before.before.before.before.before.list_entry-code.ensures.0 c.before.before.before.before.before.before.before.before.list_entry-code.ensures.1 c.before.before.before.before.before.if-code-ne0.false, c.before.before.before.put_path.auto.0)
+    let place = ap (λ (q : ℕ). v.start + q) (c.value_place.ensures.0 ∙ ap (λ (k : Kind). value_place k v.count a.i) c.as_kind-k.ensures) in
+    omega (arith, entry-open d v a.i a.depth a.parent a.out.now a.n (record { start = 0; len = 0 }) (element-key d v a.i c.requires.0) (no-key-text d) c.as_kind-k.ensures place c.list_entry-code.ensures.0 c.list_entry-code.ensures.1 c.if-code-ne0.false, c.put_path.auto.out)
 
 same-length-2 : tie.Need-shape_of-out
 same-length-2 c = search rules
@@ -80,8 +80,8 @@ returns-2 c =
     let a = c.args in
     let d = a.doc.now in
     let v = a.v in
-    let place = ap (λ (q : ℕ). v.start + q) (c.before.before.before.before.before.before.before.before.before.before.before.value_place.ensures.0 ∙ ap (λ (k : Kind). value_place k v.count a.i) c.before.before.before.before.before.before.before.before.before.before.before.before.before.as_kind-k.ensures) in
-    entry_listed d v a.i a.depth a.parent a.out.now a.n (record { start = 0; len = 0 }) (element-key d v a.i c.requires.0) (no-key-text d) c.before.before.before.before.before.before.before.before.before.before.before.before.before.as_kind-k.ensures place c.before.before.before.before.before.before.before.before.before.list_entry-code.ensures.0 c.before.before.before.before.before.before.before.before.before.list_entry-code.ensures.1 c.before.before.before.before.before.before.if-code-ne0.false c.before.before.before.before.put_path.ensures c.leads_at.ensures
+    let place = ap (λ (q : ℕ). v.start + q) (c.value_place.ensures.0 ∙ ap (λ (k : Kind). value_place k v.count a.i) c.as_kind-k.ensures) in
+    entry_listed d v a.i a.depth a.parent a.out.now a.n (record { start = 0; len = 0 }) (element-key d v a.i c.requires.0) (no-key-text d) c.as_kind-k.ensures place c.list_entry-code.ensures.0 c.list_entry-code.ensures.1 c.if-code-ne0.false c.put_path.ensures c.leads_at.ensures
 
 pub list_element_spec : {M : Type 1} → statement M
 list_element_spec =

@@ -35,7 +35,7 @@ break-or-requires : tie.Need-break_or-byte-requires
 break-or-requires c κs = search rules
 
 add-result : tie.Need-overflow_add-result
-add-result c = omega (arith, break-near c.args.doc.now c.before.before.before.before.before.before.before.sight_at-x.result.part-1, c.break_or-byte.ensures)
+add-result c = omega (arith, break-near c.args.doc.now c.sight_at-x.result.part, c.break_or-byte.ensures)
 
 same_length : tie.Need-shape_of-out-then-not-is_seen_text
 same_length c = search rules
@@ -43,8 +43,8 @@ same_length c = search rules
 returns-2 : tie.Need-returns-then-not-is_seen_text
 returns-2 c =
     let a = c.args in
-    seen_by a.doc.now a.out.now a.n c.before.before.before.before.before.before.before.sight_at-x.ensures
-    (seen-breaks a.doc.now a.out.now a.n _ c.before.before.before.before.before.if-x-ne0.false c.is_seen_text.ensures (not-true _ c.if-not-is_seen_text.true-raw) c.break_or-byte.ensures)
+    seen_by a.doc.now a.out.now a.n c.sight_at-x.ensures
+    (seen-breaks a.doc.now a.out.now a.n _ c.if-x-ne0.false c.is_seen_text.ensures (not-true _ c.if-not-is_seen_text.true-raw) c.break_or-byte.ensures)
 
 cast-result-2 : tie.Need-overflow_cast-result-then-room-n
 cast-result-2 c = search rules
@@ -55,8 +55,8 @@ same-length-2 c = search rules
 returns-3 : tie.Need-returns-then-room-n
 returns-3 c =
     let a = c.args in
-    seen_by a.doc.now a.out.now a.n c.before.before.before.before.before.before.before.sight_at-x.ensures
-    (seen-no-room a.doc.now a.out.now a.n _ c.before.before.before.before.before.if-x-ne0.false c.is_seen_text.ensures (not-false _ c.if-not-is_seen_text.false-raw) c.requires.1 c.if-room-n.true)
+    seen_by a.doc.now a.out.now a.n c.sight_at-x.ensures
+    (seen-no-room a.doc.now a.out.now a.n _ c.if-x-ne0.false c.is_seen_text.ensures (not-false _ c.if-not-is_seen_text.false-raw) c.requires.1 c.if-room-n.true)
 
 mul_at : tie.Need-overflow_mul-at
 mul_at c = search rules
@@ -101,8 +101,8 @@ returns-4 : tie.Need-returns
 unfolding put_seen
 returns-4 c =
     let a = c.args in
-    seen_by a.doc.now a.out.now a.n c.before.before.before.before.before.before.before.sight_at-x.ensures
-    (seen-put a.doc.now a.out.now a.n _ c.before.before.before.before.before.if-x-ne0.false c.is_seen_text.ensures (not-false _ c.if-not-is_seen_text.false-raw) c.requires.1 c.if-room-n.false)
+    seen_by a.doc.now a.out.now a.n c.sight_at-x.ensures
+    (seen-put a.doc.now a.out.now a.n _ c.if-x-ne0.false c.is_seen_text.ensures (not-false _ c.if-not-is_seen_text.false-raw) c.requires.1 c.if-room-n.false)
 
 pub list_entry_spec : {M : Type 1} → statement M
 list_entry_spec =

@@ -69,9 +69,9 @@ returns c =
     let a = c.args in
     let d = a.doc.now in
     let v = a.v in
-    let key-place = ap (λ (q : ℕ). v.start + q) (c.before.before.before.before.before.before.before.before.before.key_place.ensures.0 ∙ ap (λ (k : Kind). key_place k a.i) c.before.before.before.before.before.before.before.before.before.before.before.as_kind-k.ensures) in
-    let key = member-key d v a.i c.requires.1.0 c.requires.1.1 key-place c.before.before.before.before.before.before.before.before.key_at.ensures c.requires.0.0 in
-    key-bad d v a.i a.depth a.parent a.out.now a.n _ key _ c.before.before.before.before.before.before.key-1.given.1 c.is_key.ensures (not-true _ c.if-not-is_key.true-raw) c.break_or-byte.ensures c.stopped.ensures
+    let key-place = ap (λ (q : ℕ). v.start + q) (c.key_place.ensures.0 ∙ ap (λ (k : Kind). key_place k a.i) c.as_kind-k.ensures) in
+    let key = member-key d v a.i c.requires.1.0 c.requires.1.1 key-place c.key_at.ensures c.requires.0.0 in
+    key-bad d v a.i a.depth a.parent a.out.now a.n _ key _ c.in-Bytes.is c.is_key.ensures (not-true _ c.if-not-is_key.true-raw) c.break_or-byte.ensures c.stopped.ensures
 
 cast-place : tie.Need-overflow_cast-place
 cast-place c = search rules
@@ -96,40 +96,40 @@ returns-2 c =
     let a = c.args in
     let d = a.doc.now in
     let v = a.v in
-    let key-place = ap (λ (q : ℕ). v.start + q) (c.before.before.before.before.before.before.before.before.before.before.before.before.before.before.before.key_place.ensures.0 ∙ ap (λ (k : Kind). key_place k a.i) c.before.before.before.before.before.before.before.before.before.before.before.before.before.before.before.before.before.as_kind-k.ensures) in
-    let key = member-key d v a.i c.requires.1.0 c.requires.1.1 key-place c.before.before.before.before.before.before.before.before.before.before.before.before.before.before.key_at.ensures c.requires.0.0 in
-    let place = ap (λ (q : ℕ). v.start + q) (c.value_place.ensures.0 ∙ ap (λ (k : Kind). value_place k v.count a.i) c.before.before.before.before.before.before.before.before.before.before.before.before.before.before.before.before.before.as_kind-k.ensures) in
-    entry-stopped d v a.i a.depth a.parent a.out.now a.n _ (key ∙ ap part_said c.before.before.before.before.before.before.before.before.before.before.before.before.key-1.given.1) (valid-so _ (sym c.is_key.ensures ∙ not-false _ c.if-not-is_key.false-raw)) c.before.before.before.before.before.before.before.before.before.before.before.before.before.before.before.before.before.as_kind-k.ensures place c.list_entry-code.ensures.0 c.list_entry-code.ensures.1 c.if-code-ne0.true c.Stopped-by.ensures
+    let key-place = ap (λ (q : ℕ). v.start + q) (c.key_place.ensures.0 ∙ ap (λ (k : Kind). key_place k a.i) c.as_kind-k.ensures) in
+    let key = member-key d v a.i c.requires.1.0 c.requires.1.1 key-place c.key_at.ensures c.requires.0.0 in
+    let place = ap (λ (q : ℕ). v.start + q) (c.value_place.ensures.0 ∙ ap (λ (k : Kind). value_place k v.count a.i) c.as_kind-k.ensures) in
+    entry-stopped d v a.i a.depth a.parent a.out.now a.n _ (key ∙ ap part_said c.in-Bytes.is) (valid-so _ (sym c.is_key.ensures ∙ not-false _ c.if-not-is_key.false-raw)) c.as_kind-k.ensures place c.list_entry-code.ensures.0 c.list_entry-code.ensures.1 c.if-code-ne0.true c.stopped_by.ensures
 
 put-path-requires : tie.Need-put_path-requires
 put-path-requires c κs =
     let a = c.args in
     let d = a.doc.now in
     let v = a.v in
-    let key-place = ap (λ (q : ℕ). v.start + q) (c.before.before.before.before.before.before.before.before.before.before.before.before.before.before.before.key_place.ensures.0 ∙ ap (λ (k : Kind). key_place k a.i) c.before.before.before.before.before.before.before.before.before.before.before.before.before.before.before.before.before.as_kind-k.ensures) in
-    let key = member-key d v a.i c.requires.1.0 c.requires.1.1 key-place c.before.before.before.before.before.before.before.before.before.before.before.before.before.before.key_at.ensures c.requires.0.0 in
-    let place = ap (λ (q : ℕ). v.start + q) (c.value_place.ensures.0 ∙ ap (λ (k : Kind). value_place k v.count a.i) c.before.before.before.before.before.before.before.before.before.before.before.before.before.before.before.before.before.as_kind-k.ensures) in
-    entry-open d v a.i a.depth a.parent a.out.now a.n _ (key ∙ ap part_said c.before.before.before.before.before.before.before.before.before.before.before.before.key-1.given.1) (valid-so _ (sym c.is_key.ensures ∙ not-false _ c.if-not-is_key.false-raw)) c.before.before.before.before.before.before.before.before.before.before.before.before.before.before.before.before.before.as_kind-k.ensures place c.list_entry-code.ensures.0 c.list_entry-code.ensures.1 c.if-code-ne0.false
+    let key-place = ap (λ (q : ℕ). v.start + q) (c.key_place.ensures.0 ∙ ap (λ (k : Kind). key_place k a.i) c.as_kind-k.ensures) in
+    let key = member-key d v a.i c.requires.1.0 c.requires.1.1 key-place c.key_at.ensures c.requires.0.0 in
+    let place = ap (λ (q : ℕ). v.start + q) (c.value_place.ensures.0 ∙ ap (λ (k : Kind). value_place k v.count a.i) c.as_kind-k.ensures) in
+    entry-open d v a.i a.depth a.parent a.out.now a.n _ (key ∙ ap part_said c.in-Bytes.is) (valid-so _ (sym c.is_key.ensures ∙ not-false _ c.if-not-is_key.false-raw)) c.as_kind-k.ensures place c.list_entry-code.ensures.0 c.list_entry-code.ensures.1 c.if-code-ne0.false
 
 add-t25 : tie.Need-overflow_add-result
 add-t25 c =
     let a = c.args in
     let d = a.doc.now in
     let v = a.v in
-    let key-place = ap (λ (q : ℕ). v.start + q) (c.before.before.before.before.before.before.before.before.before.before.before.before.before.before.before.before.before.before.key_place.ensures.0 ∙ ap (λ (k : Kind). key_place k a.i) c.before.before.before.before.before.before.before.before.before.before.before.before.before.before.before.before.before.before.before.before.as_kind-k.ensures) in
-    let key = member-key d v a.i c.requires.1.0 c.requires.1.1 key-place c.before.before.before.before.before.before.before.before.before.before.before.before.before.before.before.before.before.key_at.ensures c.requires.0.0 in
-    let place = ap (λ (q : ℕ). v.start + q) (c.value_place.ensures.0 ∙ ap (λ (k : Kind). value_place k v.count a.i) c.before.before.before.before.before.before.before.before.before.before.before.before.before.before.before.before.before.before.before.before.as_kind-k.ensures) in
-    omega (arith, entry-small d v a.i a.depth a.parent a.out.now a.n _ (key ∙ ap part_said c.before.before.before.before.before.before.before.before.before.before.before.before.before.before.before.key-1.given.1) (valid-so _ (sym c.is_key.ensures ∙ not-false _ c.if-not-is_key.false-raw)) c.before.before.before.before.before.before.before.before.before.before.before.before.before.before.before.before.before.before.before.before.as_kind-k.ensures place c.list_entry-code.ensures.0 c.list_entry-code.ensures.1 c.if-code-ne0.false)
+    let key-place = ap (λ (q : ℕ). v.start + q) (c.key_place.ensures.0 ∙ ap (λ (k : Kind). key_place k a.i) c.as_kind-k.ensures) in
+    let key = member-key d v a.i c.requires.1.0 c.requires.1.1 key-place c.key_at.ensures c.requires.0.0 in
+    let place = ap (λ (q : ℕ). v.start + q) (c.value_place.ensures.0 ∙ ap (λ (k : Kind). value_place k v.count a.i) c.as_kind-k.ensures) in
+    omega (arith, entry-small d v a.i a.depth a.parent a.out.now a.n _ (key ∙ ap part_said c.in-Bytes.is) (valid-so _ (sym c.is_key.ensures ∙ not-false _ c.if-not-is_key.false-raw)) c.as_kind-k.ensures place c.list_entry-code.ensures.0 c.list_entry-code.ensures.1 c.if-code-ne0.false)
 
 leads-at-requires : tie.Need-leads_at-requires
 leads-at-requires c κs =
     let a = c.args in
     let d = a.doc.now in
     let v = a.v in
-    let key-place = ap (λ (q : ℕ). v.start + q) (c.before.before.before.before.before.before.before.before.before.before.before.before.before.before.before.before.before.before.before.key_place.ensures.0 ∙ ap (λ (k : Kind). key_place k a.i) c.before.before.before.before.before.before.before.before.before.before.before.before.before.before.before.before.before.before.before.before.before.as_kind-k.ensures) in
-    let key = member-key d v a.i c.requires.1.0 c.requires.1.1 key-place c.before.before.before.before.before.before.before.before.before.before.before.before.before.before.before.before.before.before.key_at.ensures c.requires.0.0 in
-    let place = ap (λ (q : ℕ). v.start + q) (c.before.before.before.before.before.before.before.before.before.before.value_place.ensures.0 ∙ ap (λ (k : Kind). value_place k v.count a.i) c.before.before.before.before.before.before.before.before.before.before.before.before.before.before.before.before.before.before.before.before.before.as_kind-k.ensures) in
-    omega (arith, entry-open d v a.i a.depth a.parent a.out.now a.n _ (key ∙ ap part_said c.before.before.before.before.before.before.before.before.before.before.before.before.before.before.before.before.key-1.given.1) (valid-so _ (sym c.before.before.before.before.before.before.before.before.before.before.before.before.before.is_key.ensures ∙ not-false _ c.before.before.before.before.before.before.before.before.before.before.before.before.if-not-is_key.false)) c.before.before.before.before.before.before.before.before.before.before.before.before.before.before.before.before.before.before.before.before.before.as_kind-k.ensures place c.before.before.before.before.before.before.before.before.list_entry-code.ensures.0 c.before.before.before.before.before.before.before.before.list_entry-code.ensures.1 c.before.before.before.before.before.if-code-ne0.false, c.before.before.before.put_path.auto.0)
+    let key-place = ap (λ (q : ℕ). v.start + q) (c.key_place.ensures.0 ∙ ap (λ (k : Kind). key_place k a.i) c.as_kind-k.ensures) in
+    let key = member-key d v a.i c.requires.1.0 c.requires.1.1 key-place c.key_at.ensures c.requires.0.0 in
+    let place = ap (λ (q : ℕ). v.start + q) (c.value_place.ensures.0 ∙ ap (λ (k : Kind). value_place k v.count a.i) c.as_kind-k.ensures) in
+    omega (arith, entry-open d v a.i a.depth a.parent a.out.now a.n _ (key ∙ ap part_said c.in-Bytes.is) (valid-so _ (sym c.is_key.ensures ∙ not-false _ c.if-not-is_key.false-raw)) c.as_kind-k.ensures place c.list_entry-code.ensures.0 c.list_entry-code.ensures.1 c.if-code-ne0.false, c.put_path.auto.out)
 
 enum-known-number : tie.Need-enum_known-number
 enum-known-number c = search rules
@@ -145,10 +145,10 @@ returns-3 c =
     let a = c.args in
     let d = a.doc.now in
     let v = a.v in
-    let key-place = ap (λ (q : ℕ). v.start + q) (c.before.before.before.before.before.before.before.before.before.before.before.before.before.before.before.before.before.before.before.before.key_place.ensures.0 ∙ ap (λ (k : Kind). key_place k a.i) c.before.before.before.before.before.before.before.before.before.before.before.before.before.before.before.before.before.before.before.before.before.before.as_kind-k.ensures) in
-    let key = member-key d v a.i c.requires.1.0 c.requires.1.1 key-place c.before.before.before.before.before.before.before.before.before.before.before.before.before.before.before.before.before.before.before.key_at.ensures c.requires.0.0 in
-    let place = ap (λ (q : ℕ). v.start + q) (c.before.before.before.before.before.before.before.before.before.before.before.value_place.ensures.0 ∙ ap (λ (k : Kind). value_place k v.count a.i) c.before.before.before.before.before.before.before.before.before.before.before.before.before.before.before.before.before.before.before.before.before.before.as_kind-k.ensures) in
-    entry_listed d v a.i a.depth a.parent a.out.now a.n _ (key ∙ ap part_said c.before.before.before.before.before.before.before.before.before.before.before.before.before.before.before.before.before.key-1.given.1) (valid-so _ (sym c.before.before.before.before.before.before.before.before.before.before.before.before.before.before.is_key.ensures ∙ not-false _ c.before.before.before.before.before.before.before.before.before.before.before.before.before.if-not-is_key.false)) c.before.before.before.before.before.before.before.before.before.before.before.before.before.before.before.before.before.before.before.before.before.before.as_kind-k.ensures place c.before.before.before.before.before.before.before.before.before.list_entry-code.ensures.0 c.before.before.before.before.before.before.before.before.before.list_entry-code.ensures.1 c.before.before.before.before.before.before.if-code-ne0.false c.before.before.before.before.put_path.ensures c.leads_at.ensures
+    let key-place = ap (λ (q : ℕ). v.start + q) (c.key_place.ensures.0 ∙ ap (λ (k : Kind). key_place k a.i) c.as_kind-k.ensures) in
+    let key = member-key d v a.i c.requires.1.0 c.requires.1.1 key-place c.key_at.ensures c.requires.0.0 in
+    let place = ap (λ (q : ℕ). v.start + q) (c.value_place.ensures.0 ∙ ap (λ (k : Kind). value_place k v.count a.i) c.as_kind-k.ensures) in
+    entry_listed d v a.i a.depth a.parent a.out.now a.n _ (key ∙ ap part_said c.in-Bytes.is) (valid-so _ (sym c.is_key.ensures ∙ not-false _ c.if-not-is_key.false-raw)) c.as_kind-k.ensures place c.list_entry-code.ensures.0 c.list_entry-code.ensures.1 c.if-code-ne0.false c.put_path.ensures c.leads_at.ensures
 
 returns-4 : tie.Need-returns-in-Refused
 returns-4 c =

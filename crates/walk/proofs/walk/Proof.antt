@@ -44,7 +44,7 @@ room-in-requires c κs = search rules
 leads-at-requires : tie.Need-leads_at-requires
 leads-at-requires c κs =
     let a = c.args in
-    let root = rooted a.doc.now a.out.now (root-node a.doc.now a.out.now c.before.before.before.before.before.before.before.before.list_root-own.ensures) c.before.before.before.before.own-1.given.1 in
+    let root = rooted a.doc.now a.out.now (root-node a.doc.now a.out.now c.list_root-own.ensures) c.in-Done.is in
     root.room
 
 enum-known-u : tie.Need-enum_known-u
@@ -53,9 +53,9 @@ enum-known-u c = search rules
 walk-array-requires : tie.Need-walk_array-requires
 walk-array-requires c κs =
     let a = c.args in
-    let root = rooted a.doc.now a.out.now (root-node a.doc.now a.out.now c.before.before.before.before.before.before.before.before.before.before.before.before.before.list_root-own.ensures) c.before.before.before.before.before.before.before.before.before.own-1.given.1 in
+    let root = rooted a.doc.now a.out.now (root-node a.doc.now a.out.now c.list_root-own.ensures) c.in-Done.is in
     let so = array-so (root_read a.doc.now) (c.leads_at.ensures ∙ root.leads) c.in-Array.is in
-    ((omega arith, so.1), (root-fit a.doc.now so.0, (root.last, c.before.before.before.before.before.before.room_in-room.ensures)))
+    ((omega arith, so.1), (root-fit a.doc.now so.0, (root.last, c.room_in-room.ensures)))
 
 enum-known-u-2 : tie.Need-enum_known-u-in-Object-1
 enum-known-u-2 c = search rules
@@ -63,9 +63,9 @@ enum-known-u-2 c = search rules
 walk-object-requires : tie.Need-walk_object-requires
 walk-object-requires c κs =
     let a = c.args in
-    let root = rooted a.doc.now a.out.now (root-node a.doc.now a.out.now c.before.before.before.before.before.before.before.before.before.before.before.before.before.list_root-own.ensures) c.before.before.before.before.before.before.before.before.before.own-1.given.1 in
+    let root = rooted a.doc.now a.out.now (root-node a.doc.now a.out.now c.list_root-own.ensures) c.in-Done.is in
     let so = object-so (root_read a.doc.now) (c.leads_at.ensures ∙ root.leads) c.in-Object.is in
-    ((omega arith, so.1), (root-fit a.doc.now so.0, (root.last, c.before.before.before.before.before.before.room_in-room.ensures)))
+    ((omega arith, so.1), (root-fit a.doc.now so.0, (root.last, c.room_in-room.ensures)))
 
 enum-told-2 : tie.Need-enum_told-in-Nothing
 enum-told-2 c = search rules
@@ -78,10 +78,10 @@ returns-2 c =
     let a = c.args in
     let d = a.doc.now in
     let o = a.out.now in
-    let own = root-node d o c.before.before.before.before.before.before.before.before.before.before.before.before.before.before.before.before.list_root-own.ensures in
-    let root = rooted d o own c.before.before.before.before.before.before.before.before.before.before.before.before.own-1.given.1 in
+    let own = root-node d o c.list_root-own.ensures in
+    let root = rooted d o own c.in-Done.is in
     walks d o
-    (root-done d o (root_read d) refl own c.before.before.before.before.before.before.before.before.before.before.before.before.own-1.given.1
+    (root-done d o (root_read d) refl own c.in-Done.is
     (container-below _ _ _ _ _ _ (array-so (root_read d) (c.leads_at.ensures ∙ root.leads) c.in-Array.is).0 c.walk_array.ensures.0))
 
 same-length-3 : tie.Need-shape_of-out-in-Object
@@ -92,10 +92,10 @@ returns-3 c =
     let a = c.args in
     let d = a.doc.now in
     let o = a.out.now in
-    let own = root-node d o c.before.before.before.before.before.before.before.before.before.before.before.before.before.before.before.before.list_root-own.ensures in
-    let root = rooted d o own c.before.before.before.before.before.before.before.before.before.before.before.before.own-1.given.1 in
+    let own = root-node d o c.list_root-own.ensures in
+    let root = rooted d o own c.in-Done.is in
     walks d o
-    (root-done d o (root_read d) refl own c.before.before.before.before.before.before.before.before.before.before.before.before.own-1.given.1
+    (root-done d o (root_read d) refl own c.in-Done.is
     (container-below _ _ _ _ _ _ (object-so (root_read d) (c.leads_at.ensures ∙ root.leads) c.in-Object.is).0 c.walk_object.ensures.0))
 
 same-length-4 : tie.Need-shape_of-out-in-Nothing
@@ -106,10 +106,10 @@ returns-4 c =
     let a = c.args in
     let d = a.doc.now in
     let o = a.out.now in
-    let own = root-node d o c.before.before.before.before.before.before.before.before.before.before.before.list_root-own.ensures in
-    let root = rooted d o own c.before.before.before.before.before.before.before.own-1.given.1 in
+    let own = root-node d o c.list_root-own.ensures in
+    let root = rooted d o own c.in-Done.is in
     walks d o
-    (root-done d o (root_read d) refl own c.before.before.before.before.before.before.before.own-1.given.1
+    (root-done d o (root_read d) refl own c.in-Done.is
     (nothing-below _ _ _ _ _ _ (nothing-so (root_read d) (c.leads_at.ensures ∙ root.leads) c.in-Nothing.is _ _ _)))
 
 pub walk_spec : {M : Type 1} → statement M
