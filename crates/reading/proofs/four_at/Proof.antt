@@ -21,5 +21,5 @@ returns c =
     let a = c.before.before.before.args in
     c.show.ensures ∙ of-bytes a.bytes.now 3 c.before.four.result a.inverted a.at (omega arith) c.before.four.ensures
 
-pub four-at-spec : {M : Type 1} → statement M
-four-at-spec = tie.close (tie.spec four-requires show-requires returns)
+pub four_at_spec : {M : Type 1} → statement M
+four_at_spec = tie.close (tie.spec four-requires show-requires returns)
