@@ -1,8 +1,8 @@
 // MySQL's decimals: packed bytes and text, there and back, and their order by value.
+#![tactic(auto)]
+
 mod reader;
 
-pub use groups::Counted;
-// The bytes that a decimal of this precision and scale takes, by the name that it has in the Rust.
 ghost use Rattle.std.specs.Prelude.{◌≡◌};
 ghost use Rattle.groups.specs.Write.{told as count_told};
 ghost use Rattle.order.specs.Value.{told};
@@ -11,6 +11,9 @@ ghost use Rattle.decimal.specs.Write.{bin_size, write_bin, bin_leaves};
 ghost use Rattle.decimal.specs.Text.{parse_text, print_told, print_leaves};
 ghost use Rattle.decimal.specs.Value.{compare_told};
 
+pub use groups::Counted;
+
+// The bytes that a decimal of this precision and scale takes, by the name that it has in the Rust.
 pub use groups::size as decimal_bin_size;
 pub use order::Compared;
 

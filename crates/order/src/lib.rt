@@ -1,4 +1,6 @@
 // The order of decimals by value, of their signs, digits and groups.
+#![tactic(auto)]
+
 ghost use Rattle.std.specs.Prelude.{◌≡◌, ◌<◌, ◌≤◌, length, get_or};
 ghost use Rattle.groups.specs.Numbers.{number};
 ghost use Rattle.groups.specs.Sign.{below_zero};

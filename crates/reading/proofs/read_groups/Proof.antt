@@ -37,23 +37,23 @@ last-small : (s : tie.Start invariant-loop decreases-loop) → s.args.s.last < 9
 last-small s = let f = cut s in let h = s.requires.1.0 in omega arith
 
 -- what the integral rest is, and its bound
-is-lead : (c : tie.After-part_at-x invariant-loop decreases-loop) → let s = c in c.part_at-x.result ≡ lead_in s.args.intg s.args.frac (Ds s)
+is-lead : (c : tie.After-part_at-x invariant-loop decreases-loop) → let s = c.before.before in c.part_at-x.result ≡ lead_in s.args.intg s.args.frac (Ds s)
 is-lead c =
-    let s = c in
+    let s = c.before.before in
     let a = s.args in
     let f = cut s in
     c.part_at-x.ensures ∙ ap (λ (w : ℕ). number 256 (take w (Ds s))) f.0.1
 
-is-power : (c : tie.After-power invariant-loop decreases-loop) → c.power.result ≡ 10 ^ rest c.args.intg
+is-power : (c : tie.After-power invariant-loop decreases-loop) → c.power.result ≡ 10 ^ rest c.before.before.before.args.intg
 is-power c =
-    let s = c in
+    let s = c.before.before.before in
     let a = s.args in
     let f = cut s in
     c.power.ensures ∙ rw f.0.0 (power-is (rest a.intg) (omega arith))
 
 part-at-requires : tie.Need-part_at-x-requires invariant-loop decreases-loop
 part-at-requires c κs =
-    let s = c in
+    let s = c.before in
     let a = s.args in
     let f = cut s in
     let z = packed-sides a.intg a.frac s.requires.1.0 in
@@ -68,34 +68,34 @@ no-groups-requires c κs = search rules
 
 returns : tie.Need-returns-then-power-x invariant-loop decreases-loop
 returns c =
-    let p = c in
-    let a = c.args in
+    let p = c.before.before in
+    let a = c.before.before.before.before.before.args in
     c.no_groups.ensures
-    ∙ sym (lead-over a.intg a.frac (Ds c.before.before.before.before.before) a.inverted (rw (is-power p, is-lead p.before) at c.if-power-x.true))
+    ∙ sym (lead-over a.intg a.frac (Ds c.before.before.before.before.before) a.inverted (rw (is-power p, is-lead p.before) at c.before.if-power-x.true))
 
 array-write-gs : tie.Need-bounds-gs-0 invariant-loop decreases-loop
 array-write-gs c = search rules
 
 loop-holds : tie.Need-loop-k-init invariant-loop decreases-loop
 loop-holds c =
-    let s = c in
+    let s = c.before.before.before.before in
     let a = s.args in
     let f = cut s in
-    let p = c in
+    let p = c.before in
     let l = filled-lead a.intg a.frac (Ds s) a.inverted _ (is-lead p.before) (rw (is-power p) at c.if-power-x.false) in
     (omega arith, (simp length-set, (omega arith, rw f.1.0.0 l)))
 
 -- what the group at the loop's place is
 is-four : (c : tie.After-four_at-g invariant-loop decreases-loop)
-    → let s = c in let k = c.loop-k.k in c.four_at-g.result ≡ four_in s.args.intg s.args.frac (Ds s) (k - lead_places s.args.intg)
+    → let s = c.before.before.before.before.before.before.before in let k = c.before.before.loop-k.k in c.four_at-g.result ≡ four_in s.args.intg s.args.frac (Ds s) (k - lead_places s.args.intg)
 is-four c =
-    let s = c in
-    let l = c.loop-k in
+    let s = c.before.before.before.before.before.before.before in
+    let l = c.before.before.loop-k in
     c.four_at-g.ensures ∙ ap (λ (n : ℕ). number 256 (take 4 (drop n (Ds s)))) l.invariant.1.1.0
 
 four-at-requires : tie.Need-four_at-g-requires invariant-loop decreases-loop
 four-at-requires c κs =
-    let s = c in
+    let s = c.before.before.before.before.before.before in
     let a = s.args in
     let f = cut s in
     let z = packed-sides a.intg a.frac s.requires.1.0 in
@@ -106,20 +106,20 @@ no-groups-requires-2 c κs = search rules
 
 returns-2 : tie.Need-returns-then-g-ge1000000000 invariant-loop decreases-loop
 returns-2 c =
-    let s = c in
+    let s = c.before.before.before.before.before.before.before.before.before in
     let a = s.args in
     let f = cut s in
-    let p = c in
-    let k = c.loop-k.k in
+    let p = c.before.before in
+    let k = c.before.before.before.before.loop-k.k in
     c.no_groups-then-g-ge1000000000.ensures
-    ∙ sym (four-over a.intg a.frac (Ds s) s.requires.1.0 a.inverted (k - lead_places a.intg) (omega arith) (rw (is-four p) at c.if-g-ge1000000000.true))
+    ∙ sym (four-over a.intg a.frac (Ds s) s.requires.1.0 a.inverted (k - lead_places a.intg) (omega arith) (rw (is-four p) at c.before.if-g-ge1000000000.true))
 
 -- the loop's place has a whole group, whose four bytes are there
 turn : (c : tie.Else-g-ge1000000000 invariant-loop decreases-loop)
-    → let s = c in let l = c.loop-k in
+    → let s = c.before.before.before.before.before.before.before.before in let l = c.before.before.before.loop-k in
     ((l.k < lead_places s.args.intg + wholes s.args.intg s.args.frac) × (l.k < 9)) × (l.at + 4 ≤ length s.args.bytes.now)
 turn c =
-    let s = c in
+    let s = c.before.before.before.before.before.before.before.before in
     let f = cut s in
     let h = last-small s in
     let z = packed-sides s.args.intg s.args.frac s.requires.1.0 in
@@ -142,11 +142,11 @@ loop-less c = let t = turn c in omega arith
 
 loop-again : tie.Need-loop-k-preserved invariant-loop decreases-loop
 loop-again c =
-    let s = c in
+    let s = c.before.before.before.before.before.before.before.before in
     let a = s.args in
     let f = cut s in
-    let p = c in
-    let l = c.loop-k in
+    let p = c.before in
+    let l = c.before.before.before.loop-k in
     let i = a.intg in
     let e : lead_places i + (l.k - lead_places i) ≡ l.k = omega arith in
     let q = rw e at (four-in i a.frac (Ds s) a.inverted (l.k - lead_places i) (omega arith)) in
@@ -159,26 +159,26 @@ loop-again c =
     )
 
 -- past the loop all whole groups are stored
-at_last : (c : tie.After-part_at invariant-loop decreases-loop) → let s = c in c.loop-k.k ≡ lead_places s.args.intg + wholes s.args.intg s.args.frac
+at_last : (c : tie.After-part_at invariant-loop decreases-loop) → let s = c.before.before.before.before.before.before.before in c.before.before.loop-k.k ≡ lead_places s.args.intg + wholes s.args.intg s.args.frac
 at_last c =
-    let s = c in
+    let s = c.before.before.before.before.before.before.before in
     let a = s.args in
     let f = cut s in
-    let h = c.loop-k-test.false in
+    let h = c.before.loop-k-test.false in
     omega arith
 
-is-tail : (c : tie.After-scaled-z invariant-loop decreases-loop) → let s = c in c.scaled-z.result ≡ tail_in s.args.intg s.args.frac (Ds s)
+is-tail : (c : tie.After-scaled-z invariant-loop decreases-loop) → let s = c.before.before.before.before.before.before.before.before in c.scaled-z.result ≡ tail_in s.args.intg s.args.frac (Ds s)
 is-tail c =
-    let s = c in
+    let s = c.before.before.before.before.before.before.before.before in
     let a = s.args in
     let f = cut s in
-    let l = c.loop-k in
+    let l = c.before.before.before.loop-k in
     let e : l.at ≡ width (rest a.intg) + 4 * wholes a.intg a.frac = let k = at_last c.before in omega arith in
-    c.scaled-z.ensures ∙ rw (c.part_at.ensures, f.1.1.1.0, f.1.1.1.1, e)
+    c.scaled-z.ensures ∙ rw (c.before.part_at.ensures, f.1.1.1.0, f.1.1.1.1, e)
 
 part-at-requires-2 : tie.Need-part_at-requires invariant-loop decreases-loop
 part-at-requires-2 c κs =
-    let s = c in
+    let s = c.before.before.before.before.before.before in
     let a = s.args in
     let f = cut s in
     let z = packed-sides a.intg a.frac s.requires.1.0 in
@@ -188,7 +188,7 @@ part-at-requires-2 c κs =
 
 scaled-requires : tie.Need-scaled-z-requires invariant-loop decreases-loop
 scaled-requires c κs =
-    let s = c in
+    let s = c.before.before.before.before.before.before.before in
     let a = s.args in
     let f = cut s in
     omega arith
@@ -198,39 +198,39 @@ no-groups-requires-3 c κs = search rules
 
 returns-3 : tie.Need-returns-then-z-ge1000000000 invariant-loop decreases-loop
 returns-3 c =
-    let s = c in
+    let s = c.before.before.before.before.before.before.before.before.before.before in
     let a = s.args in
-    let p = c in
-    c.no_groups-then-z-ge1000000000.ensures ∙ sym (tail-over a.intg a.frac (Ds s) s.requires.1.0 a.inverted (rw (is-tail p) at c.if-z-ge1000000000.true))
+    let p = c.before.before in
+    c.no_groups-then-z-ge1000000000.ensures ∙ sym (tail-over a.intg a.frac (Ds s) s.requires.1.0 a.inverted (rw (is-tail p) at c.before.if-z-ge1000000000.true))
 
 low-requires : tie.Need-low-requires invariant-loop decreases-loop
 low-requires c κs = omega arith
 
 mul-gs-2 : tie.Need-offset_bounds-gs-last invariant-loop decreases-loop
 mul-gs-2 c =
-    let s = c in
+    let s = c.before.before.before.before.before.before.before.before.before.before in
     let f = cut s in
     let h = last-small s in
     omega arith
 
 array-write-gs-3 : tie.Need-bounds-gs-last invariant-loop decreases-loop
 array-write-gs-3 c =
-    let s = c in
+    let s = c.before.before.before.before.before.before.before.before.before.before in
     let f = cut s in
     let h = last-small s in
     omega arith
 
 returns-4 : tie.Need-returns invariant-loop decreases-loop
 returns-4 c =
-    let s = c in
+    let s = c.before.before.before.before.before.before.before.before.before.before in
     let a = s.args in
     let f = cut s in
-    let p = c in
-    let l = p.loop-k in
+    let p = c.before.before in
+    let l = p.before.before.before.loop-k in
     let k = at_last p.before in
     let q = tail-in a.intg a.frac (Ds s) a.inverted in
     let t = c.low.ensures ∙ is-tail p in
-    let r = q.0 ∙ lt-ltb _ _ (rw (is-tail p) at c.if-z-ge1000000000.false) in
+    let r = q.0 ∙ lt-ltb _ _ (rw (is-tail p) at c.before.if-z-ge1000000000.false) in
     let g = filled_more a.intg a.frac (Ds s) a.inverted (lead_places a.intg + wholes a.intg a.frac) c.low.result l.gs (omega arith) (rw k at l.invariant.1.1.1) (t ∙ sym q.1) r in
     let n : length (set l.gs (lead_places a.intg + wholes a.intg a.frac) c.low.result) ≡ 9 = simp length-set l.invariant.1.0 in
     rw f.1.1.0.0 (sym (filled-all a.intg a.frac (Ds s) a.inverted (set l.gs (lead_places a.intg + wholes a.intg a.frac) c.low.result) n g))

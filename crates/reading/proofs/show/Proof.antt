@@ -15,11 +15,11 @@ sub-result c = search rules
 
 returns : tie.Need-returns-then-inverted
 unfolding shown
-returns c = let a = c.args in ap (λ (n : ℕ). a.top - n) c.begun-y.ensures.0 ∙ sym (simp c.if-inverted.true)
+returns c = let a = c.before.before.args in ap (λ (n : ℕ). a.top - n) c.before.begun-y.ensures.0 ∙ sym (simp c.if-inverted.true)
 
 returns-2 : tie.Need-returns-else-inverted
 unfolding shown
-returns-2 c = c.begun-y.ensures.0 ∙ sym (simp c.if-inverted.false)
+returns-2 c = c.before.begun-y.ensures.0 ∙ sym (simp c.if-inverted.false)
 
 pub show_spec : {M : Type 1} → statement M
 show_spec = tie.close (tie.spec begun-requires sub-result returns returns-2)

@@ -5,7 +5,6 @@ use Rattle.value.specs.Asked.{field_type}
 use borrow.Author.Rules.{rules}
 use Rattle.value.proofs.Value.field_type.Statement.{statement}
 use Rattle.value.proofs.Value.field_type.Tie as tie
-use Rattle.value.proofs.asked.scalar_field.Reads as scalar-field-reads
 
 enum-known-self : tie.Need-enum_known-self
 enum-known-self c = search rules

@@ -5,7 +5,6 @@ use Rattle.value.specs.Asked.{is_double}
 use borrow.Author.Rules.{rules}
 use Rattle.value.proofs.Value.is_double.Statement.{statement}
 use Rattle.value.proofs.Value.is_double.Tie as tie
-use Rattle.value.proofs.asked.is_double_scalar.Reads as is-double-scalar-reads
 
 enum-known-self : tie.Need-enum_known-self
 enum-known-self c = search rules

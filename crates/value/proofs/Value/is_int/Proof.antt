@@ -5,7 +5,6 @@ use Rattle.value.specs.Asked.{is_int}
 use borrow.Author.Rules.{rules}
 use Rattle.value.proofs.Value.is_int.Statement.{statement}
 use Rattle.value.proofs.Value.is_int.Tie as tie
-use Rattle.value.proofs.asked.is_int_scalar.Reads as is-int-scalar-reads
 
 enum-known-self : tie.Need-enum_known-self
 enum-known-self c = search rules

@@ -5,7 +5,6 @@ use Rattle.value.specs.Asked.{is_uint}
 use borrow.Author.Rules.{rules}
 use Rattle.value.proofs.Value.is_uint.Statement.{statement}
 use Rattle.value.proofs.Value.is_uint.Tie as tie
-use Rattle.value.proofs.asked.is_uint_scalar.Reads as is-uint-scalar-reads
 
 enum-known-self : tie.Need-enum_known-self
 enum-known-self c = search rules
