@@ -17,7 +17,7 @@ enum_told : tie.Need-enum_told-1
 enum_told c = search rules
 
 returns : tie.Need-returns-in-Scalar
-returns c = c.is_int_scalar.ensures ∙ sym (ap is_int c.before.before.self-1.in-Scalar-own.given.1)
+returns c = c.is_int_scalar.ensures ∙ sym (ap is_int c.in-Scalar.is)
 
 returns-2 : tie.Need-returns-in-Container
 returns-2 c = search rules
