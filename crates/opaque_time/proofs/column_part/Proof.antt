@@ -1,7 +1,6 @@
 -- The number of the column type decides, as in the definition.
 -- Assumes nothing.
-use mathlib.Core.Path.{sym, ap, ◌∙◌}
-use Prim.Native.Nat.{ℕ}
+use mathlib.Core.Path.{ap, ◌∙◌}
 use Rattle.time.specs.Answers.{type_of}
 use Rattle.time.specs.declared.TimeTypeOf.{TimeTypeOf}
 use Rattle.opaque_time.specs.Handed.{typed_part, column_part}

@@ -1,6 +1,6 @@
 -- A type of the four has its own case.
 -- Assumes nothing.
-use mathlib.Core.Path.{sym, ap, ◌∙◌}
+use mathlib.Core.Path.{sym, ap}
 use Rattle.time.specs.declared.TimeTypeOf.{TimeTypeOf}
 use Rattle.opaque_time.specs.Handed.{typed_part}
 use borrow.Author.Rules.{rules}
