@@ -18,102 +18,102 @@ use Rattle.walk.proofs.leads_at.Reads as leads-at-reads
 use Rattle.walk.proofs.walk_array.Reads as walk-array-reads
 use Rattle.walk.proofs.walk_object.Reads as walk-object-reads
 
-list-root-requires : tie.Need-list-root-requires
+list-root-requires : tie.Need-list_root-own-requires
 list-root-requires c κs = search rules
 
-enum-known-own : tie.Need-enum-known-own
+enum-known-own : tie.Need-enum_known-own
 enum-known-own c = search rules
 
-enum_told : tie.Need-enum-told
+enum_told : tie.Need-enum_told-1
 enum_told c = search rules
 
-same_length : tie.Need-same-length
+same_length : tie.Need-shape_of-out-in_default
 same_length c = search rules
 
-returns : tie.Need-returns
+returns : tie.Need-returns-in_default
 returns c =
-    let a = c.before.before.before.before.before.before.before.before.args in
+    let a = c.args in
     let d = a.doc.now in
     let o = a.out.now in
-    let own = root-node d o c.before.before.before.before.list-root.ensures in
-    walks d o (root-stopped d o (root_read d) refl own c.enum_told.given.1)
+    let own = root-node d o c.list_root-own.ensures in
+    walks d o (root-stopped d o (root_read d) refl own c.in_default.is)
 
-room-in-requires : tie.Need-room-in-requires
+room-in-requires : tie.Need-room_in-room-requires
 room-in-requires c κs = search rules
 
-leads-at-requires : tie.Need-leads-at-requires
+leads-at-requires : tie.Need-leads_at-requires
 leads-at-requires c κs =
-    let a = c.before.before.before.before.before.before.before.before.before.before.before.before.args in
-    let root = rooted a.doc.now a.out.now (root-node a.doc.now a.out.now c.before.before.before.before.before.before.before.before.list-root.ensures) c.before.before.before.before.own.given.1 in
+    let a = c.args in
+    let root = rooted a.doc.now a.out.now (root-node a.doc.now a.out.now c.list_root-own.ensures) c.in-Done.is in
     root.room
 
-enum-known-u : tie.Need-enum-known-u
+enum-known-u : tie.Need-enum_known-u
 enum-known-u c = search rules
 
-walk-array-requires : tie.Need-walk-array-requires
+walk-array-requires : tie.Need-walk_array-requires
 walk-array-requires c κs =
-    let a = c.before.before.before.before.before.before.before.before.before.before.before.before.before.before.before.before.before.args in
-    let root = rooted a.doc.now a.out.now (root-node a.doc.now a.out.now c.before.before.before.before.before.before.before.before.before.before.before.before.before.list-root.ensures) c.before.before.before.before.before.before.before.before.before.own.given.1 in
-    let so = array-so (root_read a.doc.now) (c.before.before.before.before.leads-at.ensures ∙ root.leads) c.before.before.u.given.1 in
-    ((omega arith, so.1), (root-fit a.doc.now so.0, (root.last, c.before.before.before.before.before.before.room_in.ensures)))
+    let a = c.args in
+    let root = rooted a.doc.now a.out.now (root-node a.doc.now a.out.now c.list_root-own.ensures) c.in-Done.is in
+    let so = array-so (root_read a.doc.now) (c.leads_at.ensures ∙ root.leads) c.in-Array.is in
+    ((omega arith, so.1), (root-fit a.doc.now so.0, (root.last, c.room_in-room.ensures)))
 
-enum-known-u-2 : tie.Need-enum-known-u-2
+enum-known-u-2 : tie.Need-enum_known-u-in-Object-1
 enum-known-u-2 c = search rules
 
-walk-object-requires : tie.Need-walk-object-requires
+walk-object-requires : tie.Need-walk_object-requires
 walk-object-requires c κs =
-    let a = c.before.before.before.before.before.before.before.before.before.before.before.before.before.before.before.before.before.args in
-    let root = rooted a.doc.now a.out.now (root-node a.doc.now a.out.now c.before.before.before.before.before.before.before.before.before.before.before.before.before.list-root.ensures) c.before.before.before.before.before.before.before.before.before.own.given.1 in
-    let so = object-so (root_read a.doc.now) (c.before.before.before.before.leads-at.ensures ∙ root.leads) c.before.before.u2.given.1 in
-    ((omega arith, so.1), (root-fit a.doc.now so.0, (root.last, c.before.before.before.before.before.before.room_in.ensures)))
+    let a = c.args in
+    let root = rooted a.doc.now a.out.now (root-node a.doc.now a.out.now c.list_root-own.ensures) c.in-Done.is in
+    let so = object-so (root_read a.doc.now) (c.leads_at.ensures ∙ root.leads) c.in-Object.is in
+    ((omega arith, so.1), (root-fit a.doc.now so.0, (root.last, c.room_in-room.ensures)))
 
-enum-told-2 : tie.Need-enum-told-2
+enum-told-2 : tie.Need-enum_told-in-Nothing
 enum-told-2 c = search rules
 
-same-length-2 : tie.Need-same-length-2
+same-length-2 : tie.Need-shape_of-out-in-Array
 same-length-2 c = search rules
 
-returns-2 : tie.Need-returns-2
+returns-2 : tie.Need-returns-in-Array
 returns-2 c =
-    let a = c.before.before.before.before.before.before.before.before.before.before.before.before.before.before.before.before.before.before.before.before.args in
+    let a = c.args in
     let d = a.doc.now in
     let o = a.out.now in
-    let own = root-node d o c.before.before.before.before.before.before.before.before.before.before.before.before.before.before.before.before.list-root.ensures in
-    let root = rooted d o own c.before.before.before.before.before.before.before.before.before.before.before.before.own.given.1 in
+    let own = root-node d o c.list_root-own.ensures in
+    let root = rooted d o own c.in-Done.is in
     walks d o
-    (root-done d o (root_read d) refl own c.before.before.before.before.before.before.before.before.before.before.before.before.own.given.1
-    (container-below _ _ _ _ _ _ (array-so (root_read d) (c.before.before.before.before.before.before.before.leads-at.ensures ∙ root.leads) c.before.before.before.before.before.u.given.1).0 c.before.before.walk-array.ensures.0))
+    (root-done d o (root_read d) refl own c.in-Done.is
+    (container-below _ _ _ _ _ _ (array-so (root_read d) (c.leads_at.ensures ∙ root.leads) c.in-Array.is).0 c.walk_array.ensures.0))
 
-same-length-3 : tie.Need-same-length-3
+same-length-3 : tie.Need-shape_of-out-in-Object
 same-length-3 c = search rules
 
-returns-3 : tie.Need-returns-3
+returns-3 : tie.Need-returns-in-Object
 returns-3 c =
-    let a = c.before.before.before.before.before.before.before.before.before.before.before.before.before.before.before.before.before.before.before.before.args in
+    let a = c.args in
     let d = a.doc.now in
     let o = a.out.now in
-    let own = root-node d o c.before.before.before.before.before.before.before.before.before.before.before.before.before.before.before.before.list-root.ensures in
-    let root = rooted d o own c.before.before.before.before.before.before.before.before.before.before.before.before.own.given.1 in
+    let own = root-node d o c.list_root-own.ensures in
+    let root = rooted d o own c.in-Done.is in
     walks d o
-    (root-done d o (root_read d) refl own c.before.before.before.before.before.before.before.before.before.before.before.before.own.given.1
-    (container-below _ _ _ _ _ _ (object-so (root_read d) (c.before.before.before.before.before.before.before.leads-at.ensures ∙ root.leads) c.before.before.before.before.before.u2.given.1).0 c.before.before.walk-object.ensures.0))
+    (root-done d o (root_read d) refl own c.in-Done.is
+    (container-below _ _ _ _ _ _ (object-so (root_read d) (c.leads_at.ensures ∙ root.leads) c.in-Object.is).0 c.walk_object.ensures.0))
 
-same-length-4 : tie.Need-same-length-4
+same-length-4 : tie.Need-shape_of-out-in-Nothing
 same-length-4 c = search rules
 
-returns-4 : tie.Need-returns-4
+returns-4 : tie.Need-returns-in-Nothing
 returns-4 c =
-    let a = c.before.before.before.before.before.before.before.before.before.before.before.before.before.before.before.args in
+    let a = c.args in
     let d = a.doc.now in
     let o = a.out.now in
-    let own = root-node d o c.before.before.before.before.before.before.before.before.before.before.before.list-root.ensures in
-    let root = rooted d o own c.before.before.before.before.before.before.before.own.given.1 in
+    let own = root-node d o c.list_root-own.ensures in
+    let root = rooted d o own c.in-Done.is in
     walks d o
-    (root-done d o (root_read d) refl own c.before.before.before.before.before.before.before.own.given.1
-    (nothing-below _ _ _ _ _ _ (nothing-so (root_read d) (c.before.before.leads-at.ensures ∙ root.leads) c.enum-told2.given.1 _ _ _)))
+    (root-done d o (root_read d) refl own c.in-Done.is
+    (nothing-below _ _ _ _ _ _ (nothing-so (root_read d) (c.leads_at.ensures ∙ root.leads) c.in-Nothing.is _ _ _)))
 
-pub walk-spec : {M : Type 1} → statement M
-walk-spec =
+pub walk_spec : {M : Type 1} → statement M
+walk_spec =
     tie.close
     (tie.spec
     list-root-requires
