@@ -59,15 +59,15 @@ walk_array-returns-in_default-w-clause-from_value t c =
     let all : Came a.levels a.doc.now a.view (a.from - 1) c.loop-i.out c.loop-i.n c.loop-i.i c.match-leads.w c.match-leads.out =
     came c.loop-i.invariant.going c.loop-i-test.true c.if-levels-eq0.false c.requires.levels_bound.0 refl c.list_element-c.ensures.listed c.in-Done.is c.list_element-c.auto.out
     (elim c.match-leads.branch [
-      walk_array-in-Array w ↦ (
+      | walk_array-in-Array w ↦ (
         container-below _ _ _ _ _ _ (array-so r leads w.in-Array.is).0 w.walk_array-w.ensures.from_value ∙ same w.w-is w.out-is,
         (ap length w.out-is ∙ w.walk_array-w.auto.out, kept a.doc.now w.w-is w.out-is w.walk_array-w.ensures.kept),
       )
-    | walk_array-in-Object w ↦ (
+      | walk_array-in-Object w ↦ (
         container-below _ _ _ _ _ _ (object-so r leads w.in-Object.is).0 w.walk_object-w.ensures.from_value ∙ same w.w-is w.out-is,
         (ap length w.out-is ∙ w.walk_object-w.auto.out, kept a.doc.now w.w-is w.out-is w.walk_object-w.ensures.kept),
       )
-    | walk_array-in-Nothing w ↦ (
+      | walk_array-in-Nothing w ↦ (
         nothing-below _ _ _ _ _ _ (nothing-so r leads w.in-Nothing.is _ _ _) ∙ same w.w-is w.out-is,
         (ap length w.out-is, kept a.doc.now w.w-is w.out-is last),
       )
@@ -83,15 +83,15 @@ walk_array-loop-i-preserved t c =
     let all : Came a.levels a.doc.now a.view (a.from - 1) c.loop-i.out c.loop-i.n c.loop-i.i c.match-leads.w c.match-leads.out =
     came c.loop-i.invariant.going c.loop-i-test.true c.if-levels-eq0.false c.requires.levels_bound.0 refl c.list_element-c.ensures.listed c.in-Done.is c.list_element-c.auto.out
     (elim c.match-leads.branch [
-      walk_array-in-Array w ↦ (
+      | walk_array-in-Array w ↦ (
         container-below _ _ _ _ _ _ (array-so r leads w.in-Array.is).0 w.walk_array-w.ensures.from_value ∙ same w.w-is w.out-is,
         (ap length w.out-is ∙ w.walk_array-w.auto.out, kept a.doc.now w.w-is w.out-is w.walk_array-w.ensures.kept),
       )
-    | walk_array-in-Object w ↦ (
+      | walk_array-in-Object w ↦ (
         container-below _ _ _ _ _ _ (object-so r leads w.in-Object.is).0 w.walk_object-w.ensures.from_value ∙ same w.w-is w.out-is,
         (ap length w.out-is ∙ w.walk_object-w.auto.out, kept a.doc.now w.w-is w.out-is w.walk_object-w.ensures.kept),
       )
-    | walk_array-in-Nothing w ↦ (
+      | walk_array-in-Nothing w ↦ (
         nothing-below _ _ _ _ _ _ (nothing-so r leads w.in-Nothing.is _ _ _) ∙ same w.w-is w.out-is,
         (ap length w.out-is, kept a.doc.now w.w-is w.out-is last),
       )
@@ -151,15 +151,15 @@ walk_object-returns-in_default-w-clause-from_value t c =
     let all : Came a.levels a.doc.now a.view (a.from - 1) c.loop-i.out c.loop-i.n c.loop-i.i c.match-leads.w c.match-leads.out =
     came c.loop-i.invariant.going c.loop-i-test.true c.if-levels-eq0.false c.requires.levels_bound.0 refl c.list_member-c.ensures.listed c.in-Done.is c.list_member-c.auto.out
     (elim c.match-leads.branch [
-      walk_object-in-Array w ↦ (
+      | walk_object-in-Array w ↦ (
         container-below _ _ _ _ _ _ (array-so r leads w.in-Array.is).0 w.walk_array-w.ensures.from_value ∙ same w.w-is w.out-is,
         (ap length w.out-is ∙ w.walk_array-w.auto.out, kept a.doc.now w.w-is w.out-is w.walk_array-w.ensures.kept),
       )
-    | walk_object-in-Object w ↦ (
+      | walk_object-in-Object w ↦ (
         container-below _ _ _ _ _ _ (object-so r leads w.in-Object.is).0 w.walk_object-w.ensures.from_value ∙ same w.w-is w.out-is,
         (ap length w.out-is ∙ w.walk_object-w.auto.out, kept a.doc.now w.w-is w.out-is w.walk_object-w.ensures.kept),
       )
-    | walk_object-in-Nothing w ↦ (
+      | walk_object-in-Nothing w ↦ (
         nothing-below _ _ _ _ _ _ (nothing-so r leads w.in-Nothing.is _ _ _) ∙ same w.w-is w.out-is,
         (ap length w.out-is, kept a.doc.now w.w-is w.out-is last),
       )
@@ -175,15 +175,15 @@ walk_object-loop-i-preserved t c =
     let all : Came a.levels a.doc.now a.view (a.from - 1) c.loop-i.out c.loop-i.n c.loop-i.i c.match-leads.w c.match-leads.out =
     came c.loop-i.invariant.going c.loop-i-test.true c.if-levels-eq0.false c.requires.levels_bound.0 refl c.list_member-c.ensures.listed c.in-Done.is c.list_member-c.auto.out
     (elim c.match-leads.branch [
-      walk_object-in-Array w ↦ (
+      | walk_object-in-Array w ↦ (
         container-below _ _ _ _ _ _ (array-so r leads w.in-Array.is).0 w.walk_array-w.ensures.from_value ∙ same w.w-is w.out-is,
         (ap length w.out-is ∙ w.walk_array-w.auto.out, kept a.doc.now w.w-is w.out-is w.walk_array-w.ensures.kept),
       )
-    | walk_object-in-Object w ↦ (
+      | walk_object-in-Object w ↦ (
         container-below _ _ _ _ _ _ (object-so r leads w.in-Object.is).0 w.walk_object-w.ensures.from_value ∙ same w.w-is w.out-is,
         (ap length w.out-is ∙ w.walk_object-w.auto.out, kept a.doc.now w.w-is w.out-is w.walk_object-w.ensures.kept),
       )
-    | walk_object-in-Nothing w ↦ (
+      | walk_object-in-Nothing w ↦ (
         nothing-below _ _ _ _ _ _ (nothing-so r leads w.in-Nothing.is _ _ _) ∙ same w.w-is w.out-is,
         (ap length w.out-is, kept a.doc.now w.w-is w.out-is last),
       )
