@@ -3,8 +3,6 @@
 use Rattle.walk.proofs.Cases.{same_kind}
 use Rattle.walk.proofs.as_kind.Statement.{statement}
 use Rattle.walk.proofs.as_kind.Tie as tie
-use Rattle.walk.proofs.as_kind.Reads as reads
-use Rattle.walk.proofs.as_kind.Lts as lts
 
 returns : tie.Need-returns
 returns c = same_kind _ c.requires

@@ -8,9 +8,6 @@ use Rattle.walk.proofs.Tested.{same_text}
 use borrow.Author.Rules.{rules}
 use Rattle.walk.proofs.is_key.Statement.{statement}
 use Rattle.walk.proofs.is_key.Tie as tie
-use Rattle.walk.proofs.is_key.Reads as reads
-use Rattle.walk.proofs.is_key.Lts as lts
-use Rattle.texts.proofs.is_text.Reads as is-text-reads
 
 mul_at : tie.Need-overflow_mul-at
 mul_at c = search rules

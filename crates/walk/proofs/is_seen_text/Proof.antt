@@ -8,9 +8,6 @@ use Rattle.walk.proofs.Tested.{same_text, seen_other, seen-string}
 use borrow.Author.Rules.{rules}
 use Rattle.walk.proofs.is_seen_text.Statement.{statement}
 use Rattle.walk.proofs.is_seen_text.Tie as tie
-use Rattle.walk.proofs.is_seen_text.Reads as reads
-use Rattle.walk.proofs.is_seen_text.Lts as lts
-use Rattle.texts.proofs.is_text.Reads as is-text-reads
 
 returns : tie.Need-returns-then-x-ne12
 returns c = seen_other c.args.doc.now c.args.x c.if-x-ne12.true

@@ -8,13 +8,6 @@ use Rattle.walk.proofs.Cases.{offset-within, offset-is, length-within, length-is
 use borrow.Author.Rules.{rules}
 use Rattle.walk.proofs.key_at.Statement.{statement}
 use Rattle.walk.proofs.key_at.Tie as tie
-use Rattle.walk.proofs.key_at.Reads as reads
-use Rattle.walk.proofs.key_at.Lts as lts
-use Rattle.layout.proofs.Kind.header_size.Reads as header-size-reads
-use Rattle.layout.proofs.Kind.offset_size.Reads as offset-size-reads
-use Rattle.walk.proofs.as_kind.Reads as as-kind-reads
-use Rattle.walk.proofs.offset_at.Reads as offset-at-reads
-use Rattle.walk.proofs.pair_at.Reads as pair-at-reads
 
 as-kind-requires : tie.Need-as_kind-k-requires
 as-kind-requires c κs = search rules

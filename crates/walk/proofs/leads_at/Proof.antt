@@ -4,9 +4,6 @@ use Rattle.walk.proofs.Cases.{no-leads, some-leads}
 use borrow.Author.Rules.{rules}
 use Rattle.walk.proofs.leads_at.Statement.{statement}
 use Rattle.walk.proofs.leads_at.Tie as tie
-use Rattle.walk.proofs.leads_at.Reads as reads
-use Rattle.walk.proofs.leads_at.Lts as lts
-use Rattle.walk.proofs.leads_by.Reads as leads-by-reads
 
 mul_at : tie.Need-overflow_mul-at
 mul_at c = search rules

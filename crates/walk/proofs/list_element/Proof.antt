@@ -10,14 +10,6 @@ use mathlib.Core.Path.{ap, ◌∙◌}
 use borrow.Author.Rules.{rules}
 use Rattle.walk.proofs.list_element.Statement.{statement}
 use Rattle.walk.proofs.list_element.Tie as tie
-use Rattle.walk.proofs.list_element.Reads as reads
-use Rattle.walk.proofs.list_element.Lts as lts
-use Rattle.layout.proofs.Kind.value_place.Reads as value-place-reads
-use Rattle.walk.proofs.as_kind.Reads as as-kind-reads
-use Rattle.walk.proofs.leads_at.Reads as leads-at-reads
-use Rattle.walk.proofs.list_entry.Reads as list-entry-reads
-use Rattle.walk.proofs.put_path.Reads as put-path-reads
-use Rattle.walk.proofs.stopped_by.Reads as stopped-by-reads
 
 as-kind-requires : tie.Need-as_kind-k-requires
 as-kind-requires c κs = search rules

@@ -10,11 +10,6 @@ use lib.ListN.{length-set}
 use borrow.Author.Rules.{rules}
 use Rattle.walk.proofs.list_entry.Statement.{statement}
 use Rattle.walk.proofs.list_entry.Tie as tie
-use Rattle.walk.proofs.list_entry.Reads as reads
-use Rattle.walk.proofs.list_entry.Lts as lts
-use Rattle.sight.proofs.sight_at.Reads as sight-at-reads
-use Rattle.texts.proofs.break_or.Reads as break-or-reads
-use Rattle.walk.proofs.is_seen_text.Reads as is-seen-text-reads
 
 sight-at-requires : tie.Need-sight_at-x-requires
 sight-at-requires c κs = search rules

@@ -15,19 +15,6 @@ use mathlib.Core.Path.{sym, ap, subst, ◌∙◌}
 use borrow.Author.Rules.{rules}
 use Rattle.walk.proofs.list_member.Statement.{statement}
 use Rattle.walk.proofs.list_member.Tie as tie
-use Rattle.walk.proofs.list_member.Reads as reads
-use Rattle.walk.proofs.list_member.Lts as lts
-use Rattle.layout.proofs.Kind.key_place.Reads as key-place-reads
-use Rattle.layout.proofs.Kind.value_place.Reads as value-place-reads
-use Rattle.texts.proofs.break_or.Reads as break-or-reads
-use Rattle.walk.proofs.as_kind.Reads as as-kind-reads
-use Rattle.walk.proofs.is_key.Reads as is-key-reads
-use Rattle.walk.proofs.key_at.Reads as key-at-reads
-use Rattle.walk.proofs.leads_at.Reads as leads-at-reads
-use Rattle.walk.proofs.list_entry.Reads as list-entry-reads
-use Rattle.walk.proofs.put_path.Reads as put-path-reads
-use Rattle.walk.proofs.stopped.Reads as stopped-reads
-use Rattle.walk.proofs.stopped_by.Reads as stopped-by-reads
 
 as-kind-requires : tie.Need-as_kind-k-requires
 as-kind-requires c κs = search rules

@@ -4,9 +4,6 @@ use Rattle.walk.proofs.Cases.{by_number, by-break}
 use borrow.Author.Rules.{rules}
 use Rattle.walk.proofs.stopped_by.Statement.{statement}
 use Rattle.walk.proofs.stopped_by.Tie as tie
-use Rattle.walk.proofs.stopped_by.Reads as reads
-use Rattle.walk.proofs.stopped_by.Lts as lts
-use Rattle.walk.proofs.stopped.Reads as stopped-reads
 
 cast-stopped : tie.Need-overflow_cast-code
 cast-stopped c = search rules
