@@ -3,11 +3,11 @@
 use asked::{Asked, Form};
 use document_answers::Over;
 use hexadecimal::Taken;
-use output::{put, put_what};
+use output::{Output, put, put_what};
 
 // ---- the answer, once all words of the line are read
 
-fn from_numbers(out: &mut [u8], at: usize, asked: Asked, n: [u32; 24]) -> usize {
+fn from_numbers(out: &mut Output<'_>, at: usize, asked: Asked, n: [u32; 24]) -> usize {
     match asked {
         Asked::Size => decimal_answers::put_size(out, at, n),
         Asked::Record => record_answers::put_record(out, at, n),
@@ -17,7 +17,7 @@ fn from_numbers(out: &mut [u8], at: usize, asked: Asked, n: [u32; 24]) -> usize 
     }
 }
 
-fn from_decimal(out: &mut [u8], at: usize, asked: Asked, n: [u32; 24], bytes: &[u8]) -> usize {
+fn from_decimal(out: &mut Output<'_>, at: usize, asked: Asked, n: [u32; 24], bytes: &[u8]) -> usize {
     match asked {
         Asked::Bin => decimal_answers::put_bin(out, at, n, bytes),
         Asked::Packed => decimal_answers::put_packed(out, at, n, bytes),
@@ -27,7 +27,7 @@ fn from_decimal(out: &mut [u8], at: usize, asked: Asked, n: [u32; 24], bytes: &[
     }
 }
 
-fn from_time(out: &mut [u8], at: usize, asked: Asked, n: [u32; 24], bytes: &[u8]) -> usize {
+fn from_time(out: &mut Output<'_>, at: usize, asked: Asked, n: [u32; 24], bytes: &[u8]) -> usize {
     match asked {
         Asked::Time => time_answers::put_time(out, at, n, bytes),
         Asked::OpaqueTime => time_answers::put_opaque(out, at, bytes),
@@ -35,7 +35,7 @@ fn from_time(out: &mut [u8], at: usize, asked: Asked, n: [u32; 24], bytes: &[u8]
     }
 }
 
-fn from_view(out: &mut [u8], at: usize, asked: Asked, n: [u32; 24], doc: &[u8]) -> usize {
+fn from_view(out: &mut Output<'_>, at: usize, asked: Asked, n: [u32; 24], doc: &[u8]) -> usize {
     match asked {
         Asked::Element => document_answers::put_element(out, at, n, doc),
         Asked::Key => document_answers::put_key_at(out, at, n, doc),
@@ -47,7 +47,7 @@ fn from_view(out: &mut [u8], at: usize, asked: Asked, n: [u32; 24], doc: &[u8]) 
     }
 }
 
-fn from_document(out: &mut [u8], at: usize, asked: Asked, n: [u32; 24], doc: &[u8]) -> usize {
+fn from_document(out: &mut Output<'_>, at: usize, asked: Asked, n: [u32; 24], doc: &[u8]) -> usize {
     match asked {
         Asked::Walk => walk_answers::put_walk(out, at, n, doc),
         Asked::Root => document_answers::put_root(out, at, doc),
@@ -59,7 +59,7 @@ fn from_document(out: &mut [u8], at: usize, asked: Asked, n: [u32; 24], doc: &[u
 // ---- the last words of the line, once its numbers are read
 
 fn numbers_alone(
-    out: &mut [u8],
+    out: &mut Output<'_>,
     at: usize,
     asked: Asked,
     n: [u32; 24],
@@ -72,7 +72,7 @@ fn numbers_alone(
     from_numbers(out, at, asked, n)
 }
 
-fn from_bytes(out: &mut [u8], at: usize, asked: Asked, n: [u32; 24], bytes: &[u8]) -> usize {
+fn from_bytes(out: &mut Output<'_>, at: usize, asked: Asked, n: [u32; 24], bytes: &[u8]) -> usize {
     match asked.form() {
         Form::Decimal => from_decimal(out, at, asked, n, bytes),
         Form::Time => from_time(out, at, asked, n, bytes),
@@ -82,7 +82,7 @@ fn from_bytes(out: &mut [u8], at: usize, asked: Asked, n: [u32; 24], bytes: &[u8
 
 // The first bytes of the room are what is asked about.
 fn from_front(
-    out: &mut [u8],
+    out: &mut Output<'_>,
     at: usize,
     asked: Asked,
     n: [u32; 24],
@@ -96,7 +96,7 @@ fn from_front(
 }
 
 fn one_word(
-    out: &mut [u8],
+    out: &mut Output<'_>,
     at: usize,
     asked: Asked,
     n: [u32; 24],
@@ -110,7 +110,7 @@ fn one_word(
     }
 }
 
-fn put_asked(out: &mut [u8], at: usize, asked: Asked, line: &[u8], from: usize) -> usize {
+fn put_asked(out: &mut Output<'_>, at: usize, asked: Asked, line: &[u8], from: usize) -> usize {
     let mut n = [0u32; 24];
     let next = asked::numbers(line, from, asked.numbers(), &mut n);
     if next == 0 {
@@ -127,7 +127,7 @@ fn put_asked(out: &mut [u8], at: usize, asked: Asked, line: &[u8], from: usize) 
 }
 
 // The answer to a line of at most 65,536 bytes that comes without its end.
-pub(crate) fn put_line(out: &mut [u8], at: usize, line: &[u8]) -> usize {
+pub(crate) fn put_line(out: &mut Output<'_>, at: usize, line: &[u8]) -> usize {
     let end = request::find(line, 0, 32);
     let asked = asked::asked_in(line, end);
     let next = put_asked(out, at, asked, line, asked::after(end));

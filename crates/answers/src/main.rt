@@ -1,10 +1,13 @@
 // answers: reads requests from standard input, one to a line, and writes one line for each.
+#![tactic(auto)]
+
 mod answer;
 
 ghost use Rattle.std.specs.Prelude.{◌≤◌, length};
 
-use libc::{STDERR_FILENO, STDIN_FILENO};
-use output::{flush, put};
+use output::{Output, flush, put};
+use std::io;
+use std::io::{Print, Read};
 
 const NEWLINE: u8 = 10;
 
@@ -27,18 +30,18 @@ fn over(held: usize, at: usize) -> State {
     }
 }
 
-fn complain(text: &[u8]) {
-    io::write_all(STDERR_FILENO, text);
+fn complain(rt: HostRuntime, text: &[u8]) {
+    let _ = rt.stderr().write_all(text);
 }
 
-fn complain_of_input() {
-    complain(b"answers: standard input cannot be read\n");
+fn complain_of_input(rt: HostRuntime) {
+    complain(rt, b"answers: standard input cannot be read\n");
 }
 
 // ---- the lines that are held
 
 // The line from one place to another.
-fn put_held(out: &mut [u8], at: usize, held: &[u8], from: usize, end: usize) -> usize {
+fn put_held(out: &mut Output<'_>, at: usize, held: &[u8], from: usize, end: usize) -> usize {
     if from <= end {
         if end <= held.len() {
             return answer::put_line(out, at, &held[from..end]);
@@ -55,7 +58,7 @@ struct Rest {
 }
 
 // Every line that has ended. The first begins at one place, and up to another its end was looked for already.
-fn put_lines(out: &mut [u8], at: usize, held: &[u8], from: usize, seen: usize) -> Rest {
+fn put_lines(out: &mut Output<'_>, at: usize, held: &[u8], from: usize, seen: usize) -> Rest {
     let mut rest = from;
     let mut next = at;
     let mut end = request::find(held, seen, NEWLINE);
@@ -87,7 +90,7 @@ fn move_front(buf: &mut [u8], from: usize, end: usize) -> usize {
 
 // Answers the lines of the buffer's first bytes that have ended, and moves what is left to the front. The first line begins at one place, and up to
 // another its end was looked for already.
-fn take_lines(out: &mut [u8], buf: &mut [u8], end: usize, from: usize, seen: usize) -> State
+fn take_lines(out: &mut Output<'_>, buf: &mut [u8], end: usize, from: usize, seen: usize) -> State
     requires { end ≤ length buf.old }
 {
     let rest = put_lines(out, 0, &buf[..end], from, seen);
@@ -108,7 +111,7 @@ fn first_end(buf: &[u8], end: usize) -> usize
 }
 
 // The same where the first of the lines is one that is skipped.
-fn take_skipped(out: &mut [u8], buf: &mut [u8], end: usize) -> State
+fn take_skipped(out: &mut Output<'_>, buf: &mut [u8], end: usize) -> State
     requires { end ≤ length buf.old }
 {
     let i = first_end(buf, end);
@@ -123,11 +126,11 @@ fn take_skipped(out: &mut [u8], buf: &mut [u8], end: usize) -> State
     }
 }
 
-// One read to the place behind the held bytes: how many came, or a negative number.
-fn read_some(buf: &mut [u8], held: usize) -> isize
+// One read to the place behind the held bytes: how many came.
+fn read_some(rt: HostRuntime, buf: &mut [u8], held: usize) -> io::Result<usize>
     requires { held ≤ length buf.old }
 {
-    libc::read(STDIN_FILENO, &mut buf[held..])
+    rt.stdin().read(&mut buf[held..])
 }
 
 // Where the held bytes end after a read.
@@ -141,15 +144,13 @@ fn end_of(buf: &[u8], held: usize, n: usize) -> usize
     held + n
 }
 
-fn read_lines(out: &mut [u8], buf: &mut [u8], held: usize, is_skipped: bool) -> State
+fn read_lines(rt: HostRuntime, out: &mut Output<'_>, buf: &mut [u8], held: usize, is_skipped: bool) -> State
     requires { held ≤ length buf.old }
 {
-    let got = read_some(buf, held);
-    if got < 0 {
-        complain_of_input();
+    let Ok(n) = read_some(rt, buf, held) else {
+        complain_of_input(rt);
         return over(0, 0);
-    }
-    let n = io::count(got, buf);
+    };
     if n == 0 {
         return over(held, 0);
     }
@@ -161,14 +162,13 @@ fn read_lines(out: &mut [u8], buf: &mut [u8], held: usize, is_skipped: bool) -> 
 }
 
 // The buffer is full: the line is too long unless the input ends here.
-fn read_past(out: &mut [u8], held: usize) -> State {
+fn read_past(rt: HostRuntime, out: &mut Output<'_>, held: usize) -> State {
     let mut one = [0u8; 1];
-    let got = libc::read(STDIN_FILENO, &mut one);
-    if got < 0 {
-        complain_of_input();
+    let Ok(n) = read_some(rt, &mut one, 0) else {
+        complain_of_input(rt);
         return over(0, 0);
-    }
-    if got == 0 {
+    };
+    if n == 0 {
         return over(held, 0);
     }
     State {
@@ -180,39 +180,39 @@ fn read_past(out: &mut [u8], held: usize) -> State {
 }
 
 // Writes the answers so far, then reads on.
-fn turn(out: &mut [u8], buf: &mut [u8], s: State) -> State {
+fn turn(rt: HostRuntime, out: &mut Output<'_>, buf: &mut [u8], s: State) -> State {
     let at = flush(out, s.at);
     if at != 0 {
         return over(0, at);
     }
     let held = s.held;
     if held < buf.len() {
-        return read_lines(out, buf, held, s.is_skipped);
+        return read_lines(rt, out, buf, held, s.is_skipped);
     }
-    read_past(out, held)
+    read_past(rt, out, held)
 }
 
 // ---- all
 
 // Writes the last answers.
-fn close(out: &[u8], at: usize) {
+fn close(rt: HostRuntime, out: &Output<'_>, at: usize) {
     if flush(out, at) != 0 {
-        complain(b"answers: standard output cannot be written\n");
+        complain(rt, b"answers: standard output cannot be written\n");
     }
 }
 
 // The last line may have no end.
-fn finish(out: &mut [u8], buf: &[u8], s: State) {
+fn finish(rt: HostRuntime, out: &mut Output<'_>, buf: &[u8], s: State) {
     if s.held == 0 {
-        close(out, s.at);
+        close(rt, out, s.at);
         return;
     }
     let at = put_held(out, s.at, buf, 0, s.held);
-    close(out, at);
+    close(rt, out, at);
 }
 
 // A proved loop has to end, and nothing says that the input does: the turns are counted down from a number that no run uses up.
-fn answer_all(out: &mut [u8], buf: &mut [u8]) {
+fn answer_all(rt: HostRuntime, out: &mut Output<'_>, buf: &mut [u8]) {
     let mut s = State {
         held: 0,
         is_skipped: false,
@@ -221,14 +221,15 @@ fn answer_all(out: &mut [u8], buf: &mut [u8]) {
     };
     let mut turns = u64::MAX;
     while turns > 0 && !s.is_over {
-        s = turn(out, buf, s);
+        s = turn(rt, out, buf, s);
         turns -= 1;
     }
-    finish(out, buf, s);
+    finish(rt, out, buf, s);
 }
 
-fn main() {
-    let mut out = io::large_buffer();
-    let mut buf = io::large_buffer();
-    answer_all(&mut out, &mut buf);
+fn main(rt: HostRuntime) {
+    let mut room = [0u8; 65536];
+    let mut buf = [0u8; 65536];
+    let mut out = Output::new(rt.stdout(), &mut room);
+    answer_all(rt, &mut out, &mut buf);
 }

@@ -1,4 +1,6 @@
 // What a line asks, and its words.
+#![tactic(auto)]
+
 use hexadecimal::Taken;
 use request::Parsed;
 

@@ -1,5 +1,7 @@
 // What stands at a place of a document: a scalar, or a container's view. Positions are absolute in the document; `end` is the end of the enclosing
 // container.
+#![tactic(auto)]
+
 ghost use Rattle.std.specs.Prelude.{◌≡◌, ◌≤◌, length};
 ghost use Rattle.std.specs.Float.{binary64};
 ghost use Rattle.std.specs.Float.Ieee.{nan_bits};

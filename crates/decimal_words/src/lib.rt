@@ -1,8 +1,11 @@
 // The words in which programs print decimals and the answers that hold them; `put` as in the crate `output`, `say` at once.
-use decimal::{Answer, Compared, Counted, Decimal};
-use output::{flush, put, put_front, put_front_hex, put_next, put_number, put_refused};
+#![tactic(auto)]
 
-fn put_printed(out: &mut [u8], at: usize, d: Decimal) -> usize {
+use decimal::{Answer, Compared, Counted, Decimal};
+use output::{Output, flush, put, put_front, put_front_hex, put_next, put_number, put_refused};
+use std::io::Stdout;
+
+fn put_printed(out: &mut Output<'_>, at: usize, d: Decimal) -> usize {
     let mut text = [0u8; 68];
     match d.print(&mut text) {
         Counted::Bytes(n) => put_front(out, at, &text, n),
@@ -10,7 +13,7 @@ fn put_printed(out: &mut [u8], at: usize, d: Decimal) -> usize {
     }
 }
 
-fn put_written(out: &mut [u8], at: usize, d: Decimal) -> usize {
+fn put_written(out: &mut Output<'_>, at: usize, d: Decimal) -> usize {
     let mut room = [0u8; 32];
     match d.write_bin(&mut room) {
         Counted::Bytes(n) => put_front_hex(out, at, &room, n),
@@ -18,7 +21,7 @@ fn put_written(out: &mut [u8], at: usize, d: Decimal) -> usize {
     }
 }
 
-fn put_sign(out: &mut [u8], at: usize, sign: bool) -> usize {
+fn put_sign(out: &mut Output<'_>, at: usize, sign: bool) -> usize {
     if sign {
         return put(out, at, b" - ");
     }
@@ -26,7 +29,7 @@ fn put_sign(out: &mut [u8], at: usize, sign: bool) -> usize {
 }
 
 // Both counts of digits, the sign, what it prints and what it writes.
-fn put_decimal(out: &mut [u8], at: usize, d: Decimal) -> usize {
+fn put_decimal(out: &mut Output<'_>, at: usize, d: Decimal) -> usize {
     let frac = put_number(out, at, d.intg as u64);
     let sign = put_next(out, frac, d.frac as u64);
     let text = put_sign(out, sign, d.sign);
@@ -35,7 +38,7 @@ fn put_decimal(out: &mut [u8], at: usize, d: Decimal) -> usize {
     put_written(out, bytes, d)
 }
 
-pub fn put_answer(out: &mut [u8], at: usize, a: Answer) -> usize {
+pub fn put_answer(out: &mut Output<'_>, at: usize, a: Answer) -> usize {
     if a.refusal == 0 {
         let d = a.decimal;
         return put_decimal(out, at, d);
@@ -43,14 +46,14 @@ pub fn put_answer(out: &mut [u8], at: usize, a: Answer) -> usize {
     put_refused(out, at, a.refusal)
 }
 
-pub fn put_counted(out: &mut [u8], at: usize, c: Counted) -> usize {
+pub fn put_counted(out: &mut Output<'_>, at: usize, c: Counted) -> usize {
     match c {
         Counted::Bytes(n) => put_number(out, at, n as u64),
         Counted::Refused(n) => put_refused(out, at, n),
     }
 }
 
-pub fn put_order(out: &mut [u8], at: usize, c: Compared) -> usize {
+pub fn put_order(out: &mut Output<'_>, at: usize, c: Compared) -> usize {
     match c {
         Compared::Less => put(out, at, b"less"),
         Compared::Equal => put(out, at, b"equal"),
@@ -59,8 +62,9 @@ pub fn put_order(out: &mut [u8], at: usize, c: Compared) -> usize {
     }
 }
 
-pub fn say_answer(a: Answer) {
-    let mut out = [0u8; 64];
+pub fn say_answer(to: Stdout, a: Answer) {
+    let mut room = [0u8; 64];
+    let mut out = Output::new(to, &mut room);
     let at = put_answer(&mut out, 0, a);
     flush(&out, at);
 }

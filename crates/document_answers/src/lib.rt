@@ -1,14 +1,16 @@
 // The answers to questions about a document. The numbers are those of the request, in their order.
+#![tactic(auto)]
+
 use jsonb::{Elements, Keys, Kind, Members, View};
-use output::{put, put_number, put_what};
+use output::{Output, put, put_number, put_what};
 use utf8::Utf8Check;
 use value_words::{put_count, put_found, put_key, put_member, put_read};
 
-pub fn put_root(out: &mut [u8], at: usize, doc: &[u8]) -> usize {
+pub fn put_root(out: &mut Output<'_>, at: usize, doc: &[u8]) -> usize {
     put_read(out, at, jsonb::deserialize(doc))
 }
 
-pub fn put_utf8(out: &mut [u8], at: usize, text: &[u8]) -> usize {
+pub fn put_utf8(out: &mut Output<'_>, at: usize, text: &[u8]) -> usize {
     match utf8::utf8_check(text) {
         Utf8Check::Valid => put(out, at, b"utf8"),
         Utf8Check::Bad(p) => {
@@ -35,14 +37,14 @@ struct Stepped {
     at: usize,
 }
 
-fn put_gap(out: &mut [u8], at: usize, pos: u32) -> usize {
+fn put_gap(out: &mut Output<'_>, at: usize, pos: u32) -> usize {
     if pos == 0 {
         return at;
     }
     put(out, at, b" ; ")
 }
 
-fn element_step(out: &mut [u8], at: usize, doc: &[u8], v: View, pos: u32) -> Stepped {
+fn element_step(out: &mut Output<'_>, at: usize, doc: &[u8], v: View, pos: u32) -> Stepped {
     let place = Elements { view: v, at: pos };
     let step = place.next(doc);
     let item = step.item;
@@ -54,7 +56,7 @@ fn element_step(out: &mut [u8], at: usize, doc: &[u8], v: View, pos: u32) -> Ste
     }
 }
 
-fn key_step(out: &mut [u8], at: usize, doc: &[u8], v: View, pos: u32) -> Stepped {
+fn key_step(out: &mut Output<'_>, at: usize, doc: &[u8], v: View, pos: u32) -> Stepped {
     let place = Keys { view: v, at: pos };
     let step = place.next(doc);
     let item = step.item;
@@ -66,7 +68,7 @@ fn key_step(out: &mut [u8], at: usize, doc: &[u8], v: View, pos: u32) -> Stepped
     }
 }
 
-fn member_step(out: &mut [u8], at: usize, doc: &[u8], v: View, pos: u32) -> Stepped {
+fn member_step(out: &mut Output<'_>, at: usize, doc: &[u8], v: View, pos: u32) -> Stepped {
     let place = Members { view: v, at: pos };
     let step = place.next(doc);
     let item = step.item;
@@ -78,7 +80,7 @@ fn member_step(out: &mut [u8], at: usize, doc: &[u8], v: View, pos: u32) -> Step
     }
 }
 
-fn put_step(out: &mut [u8], at: usize, doc: &[u8], v: View, over: Over, pos: u32) -> Stepped {
+fn put_step(out: &mut Output<'_>, at: usize, doc: &[u8], v: View, over: Over, pos: u32) -> Stepped {
     match over {
         Over::Elements => element_step(out, at, doc, v, pos),
         Over::Keys => key_step(out, at, doc, v, pos),
@@ -87,7 +89,7 @@ fn put_step(out: &mut [u8], at: usize, doc: &[u8], v: View, over: Over, pos: u32
 }
 
 // The first items, 1,024 at most: the place is 0 where that was all.
-fn put_items(out: &mut [u8], at: usize, doc: &[u8], v: View, over: Over) -> Stepped {
+fn put_items(out: &mut Output<'_>, at: usize, doc: &[u8], v: View, over: Over) -> Stepped {
     let mut pos = 0;
     let mut next = at;
     for _ in 0..1024usize {
@@ -102,7 +104,7 @@ fn put_items(out: &mut [u8], at: usize, doc: &[u8], v: View, over: Over) -> Step
 }
 
 // All items and what ends the iteration.
-fn put_iteration(out: &mut [u8], at: usize, doc: &[u8], v: View, over: Over) -> usize {
+fn put_iteration(out: &mut Output<'_>, at: usize, doc: &[u8], v: View, over: Over) -> usize {
     let done = put_items(out, at, doc, v, over);
     if done.pos == 0 {
         return done.at;
@@ -133,28 +135,28 @@ fn view_of(n: [u32; 24]) -> View {
     }
 }
 
-pub fn put_element(out: &mut [u8], at: usize, n: [u32; 24], doc: &[u8]) -> usize {
+pub fn put_element(out: &mut Output<'_>, at: usize, n: [u32; 24], doc: &[u8]) -> usize {
     if 3 < n[0] {
         return put_what(out, at);
     }
     put_found(out, at, jsonb::elem_at(doc, view_of(n), n[4]))
 }
 
-pub fn put_key_at(out: &mut [u8], at: usize, n: [u32; 24], doc: &[u8]) -> usize {
+pub fn put_key_at(out: &mut Output<'_>, at: usize, n: [u32; 24], doc: &[u8]) -> usize {
     if 3 < n[0] {
         return put_what(out, at);
     }
     put_key(out, at, jsonb::key_at(doc, view_of(n), n[4]))
 }
 
-pub fn put_element_count(out: &mut [u8], at: usize, n: [u32; 24], doc: &[u8]) -> usize {
+pub fn put_element_count(out: &mut Output<'_>, at: usize, n: [u32; 24], doc: &[u8]) -> usize {
     if 3 < n[0] {
         return put_what(out, at);
     }
     put_count(out, at, jsonb::element_count(doc, view_of(n)))
 }
 
-pub fn put_all(out: &mut [u8], at: usize, over: Over, n: [u32; 24], doc: &[u8]) -> usize {
+pub fn put_all(out: &mut Output<'_>, at: usize, over: Over, n: [u32; 24], doc: &[u8]) -> usize {
     if 3 < n[0] {
         return put_what(out, at);
     }

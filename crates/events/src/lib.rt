@@ -1,4 +1,6 @@
 // One event of the walk: what it says of a value, and for how many of them a lent list has room.
+#![tactic(auto)]
+
 ghost use Rattle.std.specs.Prelude.{◌≡◌, ◌+◌, ◌*◌, ◌≤◌, length};
 ghost use Rattle.events.specs.Events.{kind_code, code_of, bytes_of, bytes_from, scalar_part, part_of, scalar_extra, extra_of, event_of};
 ghost use Rattle.events.specs.Lay.{room};

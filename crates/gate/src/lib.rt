@@ -1,4 +1,6 @@
 // What comes before any entry of a container is looked at, and the answers of what looks at one.
+#![tactic(auto)]
+
 ghost use Rattle.std.specs.Prelude.{◌≡◌};
 ghost use Rattle.gate.specs.Said.{read_said, part_said, found_said, key_said};
 ghost use Rattle.gate.specs.Before.{matches, gate_of};

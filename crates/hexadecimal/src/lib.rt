@@ -1,4 +1,6 @@
 // The bytes that hexadecimal digits write, two to a byte.
+#![tactic(auto)]
+
 ghost use Rattle.std.specs.Prelude.{◌≡◌, true, ◌++◌, ◌≤◌, length, drop};
 ghost use Rattle.request.specs.Test.{is_in};
 ghost use Rattle.hexadecimal.specs.Hex.{digit as digit_of, are_pairs, pairs, is_hex, bytes_of, bytes_leave};

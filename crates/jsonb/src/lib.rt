@@ -1,4 +1,6 @@
 // MySQL's binary JSON: the root, containers by their views, elements, keys and members.
+#![tactic(auto)]
+
 mod root;
 mod views;
 

@@ -1,4 +1,6 @@
 // Opaque values that are dates or times: the hand-over from a document to the crate `time`.
+#![tactic(auto)]
+
 ghost use Rattle.std.specs.Prelude.{◌≡◌};
 ghost use Rattle.time.specs.Answers.{read_says};
 ghost use Rattle.opaque_time.specs.Handed.{typed_part, column_part, scalar_part, time_part, opaque_told};

@@ -1,7 +1,9 @@
 // The answers to questions about records of decimals. The numbers are those of the request, in their order.
+#![tactic(auto)]
+
 use decimal::{Counted, Decimal};
 use decimal_words::{put_counted, put_order};
-use output::{FILL, is_filled, put, put_front, put_front_hex, put_kept, put_refused, put_what};
+use output::{FILL, Output, is_filled, put, put_front, put_front_hex, put_kept, put_refused, put_what};
 
 // Where the output goes on, and whether every byte outside the result is as it was.
 #[derive(Clone, Copy)]
@@ -25,7 +27,7 @@ fn print_in(d: Decimal, room: &mut [u8], n: usize) -> Counted {
 }
 
 // The result of the writing, in so many bytes.
-fn put_written(out: &mut [u8], at: usize, d: Decimal, n: usize) -> Written {
+fn put_written(out: &mut Output<'_>, at: usize, d: Decimal, n: usize) -> Written {
     let mut room = [FILL; 128];
     match write_in(d, &mut room, n) {
         Counted::Bytes(k) => Written {
@@ -40,7 +42,7 @@ fn put_written(out: &mut [u8], at: usize, d: Decimal, n: usize) -> Written {
 }
 
 // The result of the printing.
-fn put_printed(out: &mut [u8], at: usize, d: Decimal, n: usize) -> Written {
+fn put_printed(out: &mut Output<'_>, at: usize, d: Decimal, n: usize) -> Written {
     let mut room = [FILL; 128];
     match print_in(d, &mut room, n) {
         Counted::Bytes(k) => Written {
@@ -54,7 +56,7 @@ fn put_printed(out: &mut [u8], at: usize, d: Decimal, n: usize) -> Written {
     }
 }
 
-fn put_three(out: &mut [u8], at: usize, d: Decimal, n: usize) -> usize {
+fn put_three(out: &mut Output<'_>, at: usize, d: Decimal, n: usize) -> usize {
     let size = put_counted(out, at, d.bin_size());
     let gap = put(out, size, b" ; ");
     let written = put_written(out, gap, d, n);
@@ -85,7 +87,7 @@ fn second(n: [u32; 24]) -> Decimal {
     }
 }
 
-pub fn put_record(out: &mut [u8], at: usize, n: [u32; 24]) -> usize {
+pub fn put_record(out: &mut Output<'_>, at: usize, n: [u32; 24]) -> usize {
     let room = n[12] as usize;
     if 1 < n[2] || 128 < room {
         return put_what(out, at);
@@ -93,7 +95,7 @@ pub fn put_record(out: &mut [u8], at: usize, n: [u32; 24]) -> usize {
     put_three(out, at, first(n), room)
 }
 
-pub fn put_order_of(out: &mut [u8], at: usize, n: [u32; 24]) -> usize {
+pub fn put_order_of(out: &mut Output<'_>, at: usize, n: [u32; 24]) -> usize {
     if 1 < n[2] || 1 < n[14] {
         return put_what(out, at);
     }

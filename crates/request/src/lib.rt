@@ -1,4 +1,6 @@
 // The parts of a request, a line of words with one space between two: where a byte stands, and the number that decimal digits write.
+#![tactic(auto)]
+
 ghost use Rattle.std.specs.Prelude.{◌≡◌, ◌+◌, drop};
 ghost use Rattle.request.specs.Find.{before};
 ghost use Rattle.request.specs.Number.{number_of};

@@ -1,42 +1,45 @@
 // Runs the worked examples of iterations over a container of binary JSON, a line each: the question, and what the library answers. The items of an
 // iteration are parted by semicolons.
+#![tactic(auto)]
+
 use jsonb::{Elements, Keys, Members, View};
+use std::io::Stdout;
 use words::{root_view, say, say_container, say_found, say_key, say_member};
 
-fn part(at: u32) {
+fn part(to: Stdout, at: u32) {
     if 0 < at {
-        say(b" ; ");
+        say(to, b" ; ");
     }
 }
 
 // One step: the item, and where the next place is.
-fn element_step(doc: &[u8], v: View, at: u32) -> u32 {
+fn element_step(to: Stdout, doc: &[u8], v: View, at: u32) -> u32 {
     let place = Elements { view: v, at };
     let step = place.next(doc);
     let item = step.item;
     let next = step.next;
-    part(at);
-    say_found(item);
+    part(to, at);
+    say_found(to, item);
     next.at
 }
 
-fn key_step(doc: &[u8], v: View, at: u32) -> u32 {
+fn key_step(to: Stdout, doc: &[u8], v: View, at: u32) -> u32 {
     let place = Keys { view: v, at };
     let step = place.next(doc);
     let item = step.item;
     let next = step.next;
-    part(at);
-    say_key(item);
+    part(to, at);
+    say_key(to, item);
     next.at
 }
 
-fn member_step(doc: &[u8], v: View, at: u32) -> u32 {
+fn member_step(to: Stdout, doc: &[u8], v: View, at: u32) -> u32 {
     let place = Members { view: v, at };
     let step = place.next(doc);
     let item = step.item;
     let next = step.next;
-    part(at);
-    say_member(item);
+    part(to, at);
+    say_member(to, item);
     next.at
 }
 
@@ -48,83 +51,83 @@ enum Over {
     Members,
 }
 
-fn step(doc: &[u8], v: View, over: Over, at: u32) -> u32 {
+fn step(to: Stdout, doc: &[u8], v: View, over: Over, at: u32) -> u32 {
     match over {
-        Over::Elements => element_step(doc, v, at),
-        Over::Keys => key_step(doc, v, at),
-        Over::Members => member_step(doc, v, at),
+        Over::Elements => element_step(to, doc, v, at),
+        Over::Keys => key_step(to, doc, v, at),
+        Over::Members => member_step(to, doc, v, at),
     }
 }
 
 // All steps, until the place stays as it was; eight at most.
-fn steps(doc: &[u8], v: View, over: Over) {
-    say_container(doc, v);
+fn steps(to: Stdout, doc: &[u8], v: View, over: Over) {
+    say_container(to, doc, v);
     let mut at = 0;
     for _ in 0..8usize {
-        let next = step(doc, v, over, at);
+        let next = step(to, doc, v, over, at);
         if next == at {
             break;
         }
         at = next;
     }
-    say(b"\n");
+    say(to, b"\n");
 }
 
-fn elements(doc: &[u8], v: View) {
-    say(b"elements");
-    steps(doc, v, Over::Elements);
+fn elements(to: Stdout, doc: &[u8], v: View) {
+    say(to, b"elements");
+    steps(to, doc, v, Over::Elements);
 }
 
-fn keys(doc: &[u8], v: View) {
-    say(b"keys");
-    steps(doc, v, Over::Keys);
+fn keys(to: Stdout, doc: &[u8], v: View) {
+    say(to, b"keys");
+    steps(to, doc, v, Over::Keys);
 }
 
-fn members(doc: &[u8], v: View) {
-    say(b"members");
-    steps(doc, v, Over::Members);
+fn members(to: Stdout, doc: &[u8], v: View) {
+    say(to, b"members");
+    steps(to, doc, v, Over::Members);
 }
 
 // An array of true and -2, and one whose second of three elements is no literal.
-fn element_examples() {
+fn element_examples(to: Stdout) {
     let doc = [
         0x02, 0x02, 0x00, 0x0A, 0x00, 0x04, 0x01, 0x00, 0x05, 0xFE, 0xFF,
     ];
-    elements(&doc, root_view(&doc));
+    elements(to, &doc, root_view(&doc));
     let faulty = [
         0x02, 0x03, 0x00, 0x0D, 0x00, 0x04, 0x01, 0x00, 0x04, 0x03, 0x00, 0x05, 0xFE, 0xFF,
     ];
-    elements(&faulty, root_view(&faulty));
+    elements(to, &faulty, root_view(&faulty));
 }
 
 // An object whose member a is Zoë.
-fn member_examples() {
+fn member_examples(to: Stdout) {
     let doc = [
         0x00, 0x01, 0x00, 0x11, 0x00, 0x0B, 0x00, 0x01, 0x00, 0x0C, 0x0C, 0x00, 0x61, 0x04, 0x5A,
         0x6F, 0xC3, 0xAB,
     ];
-    keys(&doc, root_view(&doc));
-    members(&doc, root_view(&doc));
+    keys(to, &doc, root_view(&doc));
+    members(to, &doc, root_view(&doc));
 }
 
 // Three members, of which the second has its key's offset in the header and a value that is no literal: the key's fault is told.
-fn faulty_member_examples() {
+fn faulty_member_examples(to: Stdout) {
     let doc = [
         0x00, 0x03, 0x00, 0x1C, 0x00, 0x19, 0x00, 0x01, 0x00, 0x18, 0x00, 0x01, 0x00, 0x1B, 0x00,
         0x01, 0x00, 0x04, 0x00, 0x00, 0x04, 0x03, 0x00, 0x05, 0xFE, 0xFF, 0x61, 0x62, 0x63,
     ];
-    keys(&doc, root_view(&doc));
-    members(&doc, root_view(&doc));
+    keys(to, &doc, root_view(&doc));
+    members(to, &doc, root_view(&doc));
 }
 
 // The wrong kind is asked, and a view with another count.
-fn refused_examples() {
+fn refused_examples(to: Stdout) {
     let object = [0x00, 0x00, 0x00, 0x04, 0x00];
-    elements(&object, root_view(&object));
+    elements(to, &object, root_view(&object));
     let array = [0x02, 0x01, 0x00, 0x07, 0x00, 0x04, 0x01, 0x00];
     let v = root_view(&array);
-    keys(&array, v);
-    members(&array, v);
+    keys(to, &array, v);
+    members(to, &array, v);
     let k = v.kind;
     let other = View {
         start: v.start,
@@ -132,12 +135,13 @@ fn refused_examples() {
         count: 0,
         kind: k,
     };
-    elements(&array, other);
+    elements(to, &array, other);
 }
 
-fn main() {
-    element_examples();
-    member_examples();
-    faulty_member_examples();
-    refused_examples();
+fn main(rt: HostRuntime) {
+    let to = rt.stdout();
+    element_examples(to);
+    member_examples(to);
+    faulty_member_examples(to);
+    refused_examples(to);
 }

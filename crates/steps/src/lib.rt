@@ -1,4 +1,6 @@
 // Iteration over a container: a place by value, and a step that gives the item and the place that follows.
+#![tactic(auto)]
+
 ghost use Rattle.std.specs.Prelude.{◌≡◌, not};
 ghost use Rattle.entry.specs.Entries.{entry_read, key_read};
 ghost use Rattle.gate.specs.Said.{read_said, part_said, found_said, key_said};

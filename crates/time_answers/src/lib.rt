@@ -1,14 +1,16 @@
 // The answers to questions about dates and times. The numbers are those of the request, in their order.
+#![tactic(auto)]
+
 use jsonb::{Read, Value};
 use opaque_time::TimePart;
-use output::{FILL, is_filled, put, put_front_hex, put_kept, put_refused, put_what};
+use output::{FILL, Output, is_filled, put, put_front_hex, put_kept, put_refused, put_what};
 use time::{MysqlTime, TimeType, TimeTypeOf, TimeWritten};
 use time_words::put_read;
 
 // ---- bytes
 
 // The type.
-pub fn put_time(out: &mut [u8], at: usize, n: [u32; 24], bytes: &[u8]) -> usize {
+pub fn put_time(out: &mut Output<'_>, at: usize, n: [u32; 24], bytes: &[u8]) -> usize {
     match TimeType::of(n[0]) {
         TimeTypeOf::Known(kind) => put_read(out, at, MysqlTime::read_packed(bytes, kind)),
         TimeTypeOf::Other => put_what(out, at),
@@ -17,7 +19,7 @@ pub fn put_time(out: &mut [u8], at: usize, n: [u32; 24], bytes: &[u8]) -> usize 
 
 // ---- a document that is a date or a time
 
-fn put_part(out: &mut [u8], at: usize, doc: &[u8], x: Value) -> usize {
+fn put_part(out: &mut Output<'_>, at: usize, doc: &[u8], x: Value) -> usize {
     match opaque_time::time_part(x) {
         TimePart::Bytes(kind, part) => {
             put_read(out, at, opaque_time::opaque_time(doc, part, kind))
@@ -26,7 +28,7 @@ fn put_part(out: &mut [u8], at: usize, doc: &[u8], x: Value) -> usize {
     }
 }
 
-pub fn put_opaque(out: &mut [u8], at: usize, doc: &[u8]) -> usize {
+pub fn put_opaque(out: &mut Output<'_>, at: usize, doc: &[u8]) -> usize {
     match jsonb::deserialize(doc) {
         Read::Value(x) => put_part(out, at, doc, x),
         Read::Refused(r) => put_refused(out, at, r),
@@ -43,7 +45,7 @@ fn write_in(t: MysqlTime, room: &mut [u8], n: usize) -> TimeWritten {
 }
 
 // The result of the writing, in so many bytes.
-fn put_written(out: &mut [u8], at: usize, t: MysqlTime, n: usize) -> usize {
+fn put_written(out: &mut Output<'_>, at: usize, t: MysqlTime, n: usize) -> usize {
     let mut room = [FILL; 128];
     match write_in(t, &mut room, n) {
         TimeWritten::Written => {
@@ -72,7 +74,7 @@ fn time_of(n: [u32; 24], kind: TimeType) -> MysqlTime {
 }
 
 // The type, the fields, the sign and the room.
-pub fn put_record(out: &mut [u8], at: usize, n: [u32; 24]) -> usize {
+pub fn put_record(out: &mut Output<'_>, at: usize, n: [u32; 24]) -> usize {
     let room = n[9] as usize;
     if 1 < n[8] || 128 < room {
         return put_what(out, at);

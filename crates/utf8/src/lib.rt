@@ -1,5 +1,7 @@
 // Whether bytes are UTF-8 by RFC 3629, and where they break. ASCII is passed in words, and characters of two bytes at the front in blocks; of any
 // other character it is counted how many of its bytes fit.
+#![tactic(auto)]
+
 ghost use Rattle.std.specs.Prelude.{◌≡◌, ◌+◌, ◌≤◌, ◌<◌, length, get_or};
 ghost use Rattle.rfc3629.specs.Machine.{least, most};
 ghost use Rattle.utf8.specs.Answer.{Tells, checked};

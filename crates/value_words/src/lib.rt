@@ -1,8 +1,10 @@
 // The words in which programs print values of binary JSON and the answers that hold them; `put` as in the crate `output`.
+#![tactic(auto)]
+
 ghost use Rattle.std.specs.Prelude.{◌≡◌, nat_abs};
 
 use jsonb::{Count, Found, Key, Kind, Member, Number, Read, Scalar, Span, Value, View};
-use output::{put, put_digits, put_next, put_number, put_refused};
+use output::{Output, put, put_digits, put_next, put_number, put_refused};
 
 fn kind_code(k: Kind) -> u64 {
     if k.object {
@@ -18,7 +20,7 @@ fn kind_code(k: Kind) -> u64 {
 }
 
 // Kind, start, count and size.
-pub fn put_view(out: &mut [u8], at: usize, v: View) -> usize {
+pub fn put_view(out: &mut Output<'_>, at: usize, v: View) -> usize {
     let k = v.kind;
     let start = put_number(out, at, kind_code(k));
     let count = put_next(out, start, v.start as u64);
@@ -26,7 +28,7 @@ pub fn put_view(out: &mut [u8], at: usize, v: View) -> usize {
     put_next(out, size, v.size as u64)
 }
 
-fn put_span(out: &mut [u8], at: usize, s: Span) -> usize {
+fn put_span(out: &mut Output<'_>, at: usize, s: Span) -> usize {
     let next = put_next(out, at, s.start as u64);
     put_next(out, next, s.len as u64)
 }
@@ -41,7 +43,7 @@ fn magnitude(n: i64) -> u64
     n as u64
 }
 
-fn put_int(out: &mut [u8], at: usize, n: i64) -> usize {
+fn put_int(out: &mut Output<'_>, at: usize, n: i64) -> usize {
     if n < 0 {
         let next = put(out, at, b" int -");
         return put_number(out, next, magnitude(n));
@@ -50,25 +52,25 @@ fn put_int(out: &mut [u8], at: usize, n: i64) -> usize {
     put_number(out, next, magnitude(n))
 }
 
-fn put_uint(out: &mut [u8], at: usize, n: u64) -> usize {
+fn put_uint(out: &mut Output<'_>, at: usize, n: u64) -> usize {
     let next = put(out, at, b" uint ");
     put_number(out, next, n)
 }
 
-fn put_bits(out: &mut [u8], at: usize, n: u64) -> usize {
+fn put_bits(out: &mut Output<'_>, at: usize, n: u64) -> usize {
     let next = put(out, at, b" double ");
     put_digits(out, next, n, 16)
 }
 
 // No double of a document's is a NaN: the bits of these have a case of their own.
-fn put_double(out: &mut [u8], at: usize, x: f64) -> usize {
+fn put_double(out: &mut Output<'_>, at: usize, x: f64) -> usize {
     if x != x {
         return put(out, at, b" double that is none");
     }
     put_bits(out, at, f64::to_bits(x))
 }
 
-fn put_number_case(out: &mut [u8], at: usize, x: Number) -> usize {
+fn put_number_case(out: &mut Output<'_>, at: usize, x: Number) -> usize {
     match x {
         Number::Int(n) => put_int(out, at, n),
         Number::Uint(n) => put_uint(out, at, n),
@@ -77,25 +79,25 @@ fn put_number_case(out: &mut [u8], at: usize, x: Number) -> usize {
     }
 }
 
-fn put_truth(out: &mut [u8], at: usize, b: bool) -> usize {
+fn put_truth(out: &mut Output<'_>, at: usize, b: bool) -> usize {
     if b {
         return put(out, at, b" true");
     }
     put(out, at, b" false")
 }
 
-fn put_string(out: &mut [u8], at: usize, p: Span) -> usize {
+fn put_string(out: &mut Output<'_>, at: usize, p: Span) -> usize {
     let next = put(out, at, b" string");
     put_span(out, next, p)
 }
 
-fn put_opaque(out: &mut [u8], at: usize, code: u8, p: Span) -> usize {
+fn put_opaque(out: &mut Output<'_>, at: usize, code: u8, p: Span) -> usize {
     let next = put(out, at, b" opaque");
     let start = put_next(out, next, code as u64);
     put_span(out, start, p)
 }
 
-fn put_case(out: &mut [u8], at: usize, s: Scalar) -> usize {
+fn put_case(out: &mut Output<'_>, at: usize, s: Scalar) -> usize {
     match s {
         Scalar::Null => put(out, at, b" null"),
         Scalar::Boolean(b) => put_truth(out, at, b),
@@ -105,43 +107,43 @@ fn put_case(out: &mut [u8], at: usize, s: Scalar) -> usize {
     }
 }
 
-fn put_scalar(out: &mut [u8], at: usize, code: u8, s: Scalar) -> usize {
+fn put_scalar(out: &mut Output<'_>, at: usize, code: u8, s: Scalar) -> usize {
     let next = put(out, at, b"scalar");
     let case = put_next(out, next, code as u64);
     put_case(out, case, s)
 }
 
-fn put_container(out: &mut [u8], at: usize, v: View) -> usize {
+fn put_container(out: &mut Output<'_>, at: usize, v: View) -> usize {
     let next = put(out, at, b"container ");
     put_view(out, next, v)
 }
 
-fn put_value(out: &mut [u8], at: usize, x: Value) -> usize {
+fn put_value(out: &mut Output<'_>, at: usize, x: Value) -> usize {
     match x {
         Value::Scalar(t, s) => put_scalar(out, at, t.code(), s),
         Value::Container(v) => put_container(out, at, v),
     }
 }
 
-fn put_key_span(out: &mut [u8], at: usize, s: Span) -> usize {
+fn put_key_span(out: &mut Output<'_>, at: usize, s: Span) -> usize {
     let next = put(out, at, b"key");
     put_span(out, next, s)
 }
 
 // ---- answers
 
-fn put_nothing(out: &mut [u8], at: usize) -> usize {
+fn put_nothing(out: &mut Output<'_>, at: usize) -> usize {
     put(out, at, b"nothing")
 }
 
-pub fn put_read(out: &mut [u8], at: usize, r: Read) -> usize {
+pub fn put_read(out: &mut Output<'_>, at: usize, r: Read) -> usize {
     match r {
         Read::Value(x) => put_value(out, at, x),
         Read::Refused(n) => put_refused(out, at, n),
     }
 }
 
-pub fn put_found(out: &mut [u8], at: usize, f: Found) -> usize {
+pub fn put_found(out: &mut Output<'_>, at: usize, f: Found) -> usize {
     match f {
         Found::Value(x) => put_value(out, at, x),
         Found::Nothing => put_nothing(out, at),
@@ -149,7 +151,7 @@ pub fn put_found(out: &mut [u8], at: usize, f: Found) -> usize {
     }
 }
 
-pub fn put_key(out: &mut [u8], at: usize, k: Key) -> usize {
+pub fn put_key(out: &mut Output<'_>, at: usize, k: Key) -> usize {
     match k {
         Key::Key(s) => put_key_span(out, at, s),
         Key::Nothing => put_nothing(out, at),
@@ -157,13 +159,13 @@ pub fn put_key(out: &mut [u8], at: usize, k: Key) -> usize {
     }
 }
 
-fn put_pair(out: &mut [u8], at: usize, s: Span, x: Value) -> usize {
+fn put_pair(out: &mut Output<'_>, at: usize, s: Span, x: Value) -> usize {
     let next = put_key_span(out, at, s);
     let value = put(out, next, b" = ");
     put_value(out, value, x)
 }
 
-pub fn put_member(out: &mut [u8], at: usize, m: Member) -> usize {
+pub fn put_member(out: &mut Output<'_>, at: usize, m: Member) -> usize {
     match m {
         Member::Member(s, x) => put_pair(out, at, s, x),
         Member::Nothing => put_nothing(out, at),
@@ -171,7 +173,7 @@ pub fn put_member(out: &mut [u8], at: usize, m: Member) -> usize {
     }
 }
 
-pub fn put_count(out: &mut [u8], at: usize, c: Count) -> usize {
+pub fn put_count(out: &mut Output<'_>, at: usize, c: Count) -> usize {
     match c {
         Count::Count(n) => put_number(out, at, n as u64),
         Count::Refused(n) => put_refused(out, at, n),

@@ -1,4 +1,6 @@
 // The walk: every path of a document, in order, as events in a lent list.
+#![tactic(auto)]
+
 ghost use Rattle.std.specs.Prelude.{◌≡◌, true, false, ◌+◌, ◌*◌, ◌-◌, ◌<◌, ◌≤◌, length, take, drop};
 ghost use Rattle.raw.specs.Numbers.{value as value_of};
 ghost use Rattle.layout.specs.Layout.{offset_size, key_entry, offset_at};

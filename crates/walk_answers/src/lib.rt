@@ -1,5 +1,7 @@
 // The answers to questions about the walk. The numbers are those of the request, in their order.
-use output::{put, put_next, put_number, put_refused, put_what};
+#![tactic(auto)]
+
+use output::{Output, put, put_next, put_number, put_refused, put_what};
 use walk::Walked;
 
 fn wide(n: u32) -> u64 {
@@ -7,7 +9,7 @@ fn wide(n: u32) -> u64 {
 }
 
 // A number of an event: the first of them after a slash.
-fn put_cell(out: &mut [u8], at: usize, i: usize, n: u64) -> usize {
+fn put_cell(out: &mut Output<'_>, at: usize, i: usize, n: u64) -> usize {
     if i % events::WIDE == 0 {
         let next = put(out, at, b" /");
         return put_next(out, next, n);
@@ -16,7 +18,7 @@ fn put_cell(out: &mut [u8], at: usize, i: usize, n: u64) -> usize {
 }
 
 // The first events and their count.
-fn put_events(out: &mut [u8], at: usize, numbers: &[u32], count: usize) -> usize {
+fn put_events(out: &mut Output<'_>, at: usize, numbers: &[u32], count: usize) -> usize {
     let mut next = put_number(out, at, count as u64);
     if count <= numbers.len() / events::WIDE {
         let end = events::WIDE * count;
@@ -27,14 +29,14 @@ fn put_events(out: &mut [u8], at: usize, numbers: &[u32], count: usize) -> usize
     next
 }
 
-fn put_stopped(out: &mut [u8], at: usize, number: u8, place: usize) -> usize {
+fn put_stopped(out: &mut Output<'_>, at: usize, number: u8, place: usize) -> usize {
     let next = put(out, at, b" ");
     let after = put_refused(out, next, number);
     let place_at = put(out, after, b" at ");
     put_number(out, place_at, place as u64)
 }
 
-fn put_walked(out: &mut [u8], at: usize, numbers: &[u32], w: Walked) -> usize {
+fn put_walked(out: &mut Output<'_>, at: usize, numbers: &[u32], w: Walked) -> usize {
     match w {
         Walked::Done { count } => put_events(out, at, numbers, count),
         Walked::Stopped {
@@ -49,7 +51,7 @@ fn put_walked(out: &mut [u8], at: usize, numbers: &[u32], w: Walked) -> usize {
 }
 
 // With room for so many events, at most 1,820.
-pub fn put_walk(out: &mut [u8], at: usize, n: [u32; 24], doc: &[u8]) -> usize {
+pub fn put_walk(out: &mut Output<'_>, at: usize, n: [u32; 24], doc: &[u8]) -> usize {
     let room = n[0] as usize;
     if 1820 < room {
         return put_what(out, at);

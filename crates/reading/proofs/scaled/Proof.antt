@@ -20,7 +20,7 @@ cast-result c = search rules
 
 mul-result : tie.Need-overflow_mul-result
 mul-result c =
-    let a = c.before.args in
+    let a = c.args in
     let e = c.power.ensures ∙ power-is (9 - a.d) (omega arith) in
     let h = ten-most (9 - a.d) (omega arith) in
     let m = mul-le-mul_left a.x h in
@@ -28,7 +28,7 @@ mul-result c =
 
 returns : tie.Need-returns
 returns c =
-    let a = c.before.args in
+    let a = c.args in
     ap (λ (n : ℕ). a.x * n) (c.power.ensures ∙ power-is (9 - a.d) (omega arith))
 
 pub scaled_spec : {M : Type 1} → statement M

@@ -4,23 +4,23 @@ use Rattle.value_words.proofs.Distance.{not-below, itself, turned-fits, turned-c
 use Rattle.value_words.proofs.magnitude.Statement.{statement}
 use Rattle.value_words.proofs.magnitude.Tie as tie
 
-sub-result : tie.Need-overflow-sub-result
-sub-result c = turned-fits _ c.before.ranges.n c.if1.true
+sub-result : tie.Need-overflow_sub-result
+sub-result c = turned-fits _ c.ranges.n c.if-n-lt0.true
 
-cast-result : tie.Need-overflow-cast-result
-cast-result c = turned-cast _ c.before.ranges.n c.if1.true
+cast-result : tie.Need-overflow_cast-result
+cast-result c = turned-cast _ c.ranges.n c.if-n-lt0.true
 
-add-result : tie.Need-overflow-add-result
-add-result c = distance-fits _ c.before.ranges.n c.if1.true
+add-result : tie.Need-overflow_add-result
+add-result c = distance-fits _ c.ranges.n c.if-n-lt0.true
 
-returns : tie.Need-returns
-returns c = distance _ c.before.ranges.n c.if1.true
+returns : tie.Need-returns-then-n-lt0
+returns c = distance _ c.ranges.n c.if-n-lt0.true
 
-cast-result-2 : tie.Need-overflow-cast-result-2
-cast-result-2 c = not-below _ c.before.ranges.n c.if1.false
+cast-result-2 : tie.Need-overflow_cast-result-2
+cast-result-2 c = not-below _ c.ranges.n c.if-n-lt0.false
 
-returns-2 : tie.Need-returns-2
-returns-2 c = itself _ c.before.ranges.n
+returns-2 : tie.Need-returns
+returns-2 c = itself _ c.ranges.n
 
-pub magnitude-spec : {M : Type 1} → statement M
-magnitude-spec = tie.close (tie.spec sub-result cast-result add-result returns cast-result-2 returns-2)
+pub magnitude_spec : {M : Type 1} → statement M
+magnitude_spec = tie.close (tie.spec sub-result cast-result add-result returns cast-result-2 returns-2)

@@ -24,23 +24,23 @@ put-requires c κs = search rules
 same_length : tie.Need-same-length
 same_length c = search rules
 
-returns : tie.Need-returns
+returns : tie.Need-returns-then-x
 returns c = search rules
 
-float-to-bits-put-bits : tie.Need-float-to-bits-put-bits
-float-to-bits-put-bits c = equals_itself _ c.before.if1.false
+float-to-bits-put-bits : tie.Need-float_to_bits-x
+float-to-bits-put-bits c = equals_itself _ c.before.if-x.false
 
-put-bits-requires : tie.Need-put-bits-requires
+put-bits-requires : tie.Need-put_bits-requires
 put-bits-requires c κs = search rules
 
 same-length-2 : tie.Need-same-length-2
 same-length-2 c = search rules
 
-returns-2 : tie.Need-returns-2
+returns-2 : tie.Need-returns
 returns-2 c = search rules
 
-pub put-double-spec : {M : Type 1} → statement M
-put-double-spec =
+pub put_double_spec : {M : Type 1} → statement M
+put_double_spec =
     tie.close
     (tie.spec
     slice-aggregate-put

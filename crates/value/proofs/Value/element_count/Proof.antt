@@ -16,7 +16,7 @@ returns : tie.Need-returns-in-Scalar
 returns c = search rules
 
 returns-2 : tie.Need-returns-in-Container
-returns-2 c = sym (ap element_count c.before.self-1.in-Container-own.given.1)
+returns-2 c = sym (ap element_count c.in-Container.is)
 
 pub element_count_spec : {M : Type 1} → statement M
 element_count_spec = tie.close (tie.spec enum_told enum-known-self returns returns-2)

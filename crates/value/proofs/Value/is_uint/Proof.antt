@@ -5,7 +5,6 @@ use Rattle.value.specs.Asked.{is_uint}
 use borrow.Author.Rules.{rules}
 use Rattle.value.proofs.Value.is_uint.Statement.{statement}
 use Rattle.value.proofs.Value.is_uint.Tie as tie
-use Rattle.value.proofs.asked.is_uint_scalar.Reads as is-uint-scalar-reads
 
 enum-known-self : tie.Need-enum_known-self
 enum-known-self c = search rules
@@ -17,7 +16,7 @@ enum_told : tie.Need-enum_told-1
 enum_told c = search rules
 
 returns : tie.Need-returns-in-Scalar
-returns c = c.is_uint_scalar.ensures ∙ sym (ap is_uint c.before.before.self-1.in-Scalar-own.given.1)
+returns c = c.is_uint_scalar.ensures ∙ sym (ap is_uint c.in-Scalar.is)
 
 returns-2 : tie.Need-returns-in-Container
 returns-2 c = search rules

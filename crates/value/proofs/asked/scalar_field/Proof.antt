@@ -34,7 +34,7 @@ returns-4 : tie.Need-returns-in-String
 returns-4 c = search rules
 
 returns-5 : tie.Need-returns-in-Opaque
-returns-5 c = sym (ap scalar_field c.before.s-1.in-Opaque-own.given.1)
+returns-5 c = sym (ap scalar_field c.in-Opaque.is)
 
 pub scalar_field_spec : {M : Type 1} → statement M
 scalar_field_spec =

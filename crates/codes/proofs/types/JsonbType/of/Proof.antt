@@ -1,7 +1,6 @@
 -- Each number has its own arm, and any other is the number of none.
 -- Assumes nothing.
 use mathlib.Core.Path.{sym}
-use mathlib.Core.List.{[], ◌∷◌}
 use Rattle.codes.specs.Lists.{search}
 use Rattle.codes.specs.Types.{code_of, all, type_of}
 use Rattle.codes.specs.declared.types.TypeOf.TheVariants.{Known, Refused}
