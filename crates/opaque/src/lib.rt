@@ -1,4 +1,6 @@
 // Opaque values that are decimals: the hand-over from a document to the crate `decimal`.
+#![tactic(auto)]
+
 ghost use Rattle.std.specs.Prelude.{◌≡◌};
 ghost use Rattle.decimal.specs.Read.{refused};
 ghost use Rattle.opaque.specs.Handed.{column_part, scalar_part, decimal_part, opaque_decimal};

@@ -1,5 +1,7 @@
 // Decimals as twelve numbers in a lent slice, for programs in other languages. What stores one returns a refusal's number, or 0, and stores the numbers at the
 // front; a slice that is too short is refused by 25, and a refusal changes nothing.
+#![tactic(auto)]
+
 ghost use Rattle.std.specs.Prelude.{◌≡◌, cond, ◌+◌, ◌≤◌, length, get_or};
 ghost use Rattle.std.proofs.Math.Seq.{paste};
 ghost use Rattle.groups.specs.Numbers.{tab};

@@ -1,5 +1,7 @@
 // Answers about decimals that are one number, in a lent slice, for programs in other languages: counts and orders. Each function returns a refusal's number, or 0,
 // and stores the answer's number at the front; an empty slice is refused by 25, and a refusal changes nothing.
+#![tactic(auto)]
+
 ghost use Rattle.std.specs.Prelude.{◌≡◌, [], ◌∷◌, ◌≤◌, length};
 ghost use Rattle.order.specs.Value.{told};
 ghost use Rattle.lent.specs.Layout.{laid, Relays};

@@ -10,39 +10,39 @@ use Rattle.groups.proofs.Tab.{fill_more, filled}
 use Rattle.records.proofs.groups_in.Statement.{statement}
 use Rattle.records.proofs.groups_in.Tie as tie
 
-abbrev invariant-loop : tie.invariant-loop
+abbrev invariant-loop : tie.invariant-loop-k
 invariant-loop xs groups₀ k₀ groups k = (k ≤ 9) × ((length groups ≡ 9) × ((j : ℕ) → j < k → get_or groups j 0 ≡ get_or xs (j + 3) 0))
 
-abbrev decreases-loop : tie.decreases-loop
+abbrev decreases-loop : tie.decreases-loop-k
 decreases-loop xs groups₀ k₀ groups k = 9 - k
 
-loop-holds : tie.Need-loop-init invariant-loop decreases-loop
+loop-holds : tie.Need-loop-k-init invariant-loop decreases-loop
 loop-holds c = (search rules, (refl, below_none _))
 
-add-groups : tie.Need-overflow-add-groups invariant-loop decreases-loop
+add-groups : tie.Need-overflow_add-groups invariant-loop decreases-loop
 add-groups c = omega arith
 
-mul-groups : tie.Need-overflow-mul-groups invariant-loop decreases-loop
+mul-groups : tie.Need-offset_bounds-xs-k invariant-loop decreases-loop
 mul-groups c = omega arith
 
-shared-slice-read-groups : tie.Need-shared-slice-read-groups invariant-loop decreases-loop
+shared-slice-read-groups : tie.Need-bounds-xs-k invariant-loop decreases-loop
 shared-slice-read-groups c = omega arith
 
-mul-groups-2 : tie.Need-overflow-mul-groups-2 invariant-loop decreases-loop
+mul-groups-2 : tie.Need-offset_bounds-groups-k invariant-loop decreases-loop
 mul-groups-2 c = omega arith
 
-array-write-groups : tie.Need-array-write-groups invariant-loop decreases-loop
+array-write-groups : tie.Need-bounds-groups-k invariant-loop decreases-loop
 array-write-groups c = omega arith
 
-add-k : tie.Need-overflow-add-k invariant-loop decreases-loop
+add-k : tie.Need-overflow_step-k invariant-loop decreases-loop
 add-k c = omega arith
 
-loop-less : tie.Need-loop-smaller invariant-loop decreases-loop
+loop-less : tie.Need-loop-k-smaller invariant-loop decreases-loop
 loop-less c = omega arith
 
-loop-again : tie.Need-loop-preserved invariant-loop decreases-loop
+loop-again : tie.Need-loop-k-preserved invariant-loop decreases-loop
 loop-again c =
-    let l = c.before.before.loop in
+    let l = c.before.before.loop-k in
     let xs = c.before.before.before.args.xs.now in (
       search rules,
       (
@@ -53,13 +53,13 @@ loop-again c =
 
 returns : tie.Need-returns invariant-loop decreases-loop
 returns c =
-    let l = c.before.loop in
+    let l = c.before.loop-k in
     let xs = c.before.before.args.xs.now in
     let e : l.k ≡ 9 = omega arith in
     filled 9 (λ j. get_or xs (j + 3) 0) l.groups l.invariant.1.0 (λ j h. l.invariant.1.1 j (rw e h))
 
-pub groups-in-spec : {M : Type 1} → statement M
-groups-in-spec =
+pub groups_in_spec : {M : Type 1} → statement M
+groups_in_spec =
     tie.close
     (tie.spec
     invariant-loop

@@ -8,40 +8,40 @@ use borrow.Author.Rules.{rules}
 use Rattle.records.proofs.put_decimal.Statement.{statement}
 use Rattle.records.proofs.put_decimal.Tie as tie
 
-cast-answer : tie.Need-overflow-cast-answer
+cast-answer : tie.Need-overflow_cast-answer
 cast-answer c = search rules
 
-slice-write-answer : tie.Need-slice-write-answer
+slice-write-answer : tie.Need-bounds-answer-0
 slice-write-answer c = search rules
 
-cast-answer-2 : tie.Need-overflow-cast-answer-2
+cast-answer-2 : tie.Need-overflow_cast-answer-2
 cast-answer-2 c = search rules
 
-slice-write-answer-2 : tie.Need-slice-write-answer-2
+slice-write-answer-2 : tie.Need-bounds-answer-1
 slice-write-answer-2 c = simp length-set (omega arith)
 
-sign-number-requires : tie.Need-sign-number-requires
+sign-number-requires : tie.Need-sign_number-requires
 sign-number-requires c κs = search rules
 
-slice-write-answer-3 : tie.Need-slice-write-answer-3
+slice-write-answer-3 : tie.Need-bounds-answer-2
 slice-write-answer-3 c = simp length-set (omega arith)
 
-put-groups-requires : tie.Need-put-groups-requires
+put-groups-requires : tie.Need-put_groups-requires
 put-groups-requires c κs = search rules
 
-same_length : tie.Need-same-length
-same_length c = c.before.before.put-groups.auto.0 ∙ simp length-set
+same_length : tie.Need-shape_of-answer
+same_length c = c.before.before.put_groups.auto.answer ∙ simp length-set
 
 returns : tie.Need-returns
 returns c =
     let w = c.before.before.before.before.before in
     let a = w.before.before.before.before.args in
     let e : length a.d.groups ≡ 9 = search rules in
-    c.before.before.put-groups.ensures
-    ∙ record-laid a.d a.answer.now e w.before.before.before.before.requires w.sign-number.ensures
+    c.before.before.put_groups.ensures
+    ∙ record-laid a.d a.answer.now e w.before.before.before.before.requires w.sign_number.ensures
 
-pub put-decimal-spec : {M : Type 1} → statement M
-put-decimal-spec =
+pub put_decimal_spec : {M : Type 1} → statement M
+put_decimal_spec =
     tie.close
     (tie.spec
     cast-answer
