@@ -23,7 +23,7 @@ pub fn put_utf8(out: &mut Output<'_>, at: usize, text: &[u8]) -> usize {
 // ---- iterations
 
 // What is stepped over.
-#[derive(Drop)]
+#[derive(Clone, Copy)]
 pub enum Over {
     Elements,
     Keys,

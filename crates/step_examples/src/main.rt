@@ -44,7 +44,7 @@ fn member_step(to: Stdout, doc: &[u8], v: View, at: u32) -> u32 {
 }
 
 // What is stepped over.
-#[derive(Drop)]
+#[derive(Clone, Copy)]
 enum Over {
     Elements,
     Keys,
