@@ -1,6 +1,6 @@
 /*
  * Bratthelm for C: MySQL's binary JSON, read by position and walked as a whole, its packed decimals, read, written, printed, parsed and
- * compared, and its packed dates and times, read and written, by code that is proved. The archive is librelay.a, which 'rt staticlib relay' writes; it
+ * compared, and its packed dates and times, read and written, by code that is proved. The archive is librelay.a, which './archive' writes; it
  * links into x86-64 Linux programs.
  *
  * How a function answers
@@ -15,7 +15,7 @@
  * Every pointer is valid for as many items as the length after it says, and is not null, even where that is 0. What a function writes to
  * (answer, events, bytes, text) overlaps nothing else that is lent to the call, and no other thread touches it meanwhile. Nothing else is
  * asked: any bytes, any numbers and any lengths have their answer. No function keeps a pointer or allocates, and the walk needs some 31,100 bytes
- * of stack at most.
+ * of stack at most, as measured with the older kit.
  *
  * The rows
  *

@@ -1,7 +1,7 @@
 //! Finds the archive librelay.a and links it.
 //!
 //! The environment variable BRATTHELM_LIB names the folder that holds it. Without it the folder is target/staticlib of this repository, where
-//! `rt staticlib relay` leaves it.
+//! `./archive` leaves it.
 use std::{env, path::PathBuf};
 
 fn main() {
@@ -14,7 +14,7 @@ fn main() {
     let archive = folder.join("librelay.a");
     println!("cargo:rerun-if-changed={}", archive.display());
     if !archive.is_file() {
-        println!("cargo:warning=librelay.a is not in {}: say `rt staticlib relay`, or name its folder in BRATTHELM_LIB", folder.display());
+        println!("cargo:warning=librelay.a is not in {}: say `./archive`, or name its folder in BRATTHELM_LIB", folder.display());
     }
     if env::var("CARGO_CFG_TARGET_ARCH").as_deref() != Ok("x86_64") || env::var("CARGO_CFG_TARGET_OS").as_deref() != Ok("linux") {
         println!("cargo:warning=librelay.a is x86-64 code for Linux: build with --target x86_64-unknown-linux-gnu");

@@ -1,6 +1,6 @@
 //! MySQL's binary JSON, packed decimals, and packed dates and times, by proved code.
 //!
-//! Safe functions over the archive librelay.a, which `rt staticlib relay` builds of proved crates; build.rs says how it is found. Nothing here allocates.
+//! Safe functions over the archive librelay.a, which `./archive` builds of proved crates; build.rs says how it is found. Nothing here allocates.
 //! What is a type of mysql_common has its name there: [`Decimal`], [`MysqlTime`], [`Value`], `element_count`, `elem_at`, `key_at`, `read_packed` and so on. Bytes
 //! are lent as slices, text and bytes are written to lent slices, and every error is a [`Refusal`] with its number.
 //!

@@ -76,7 +76,7 @@ impl core::error::Error for Stopped {}
 /// Walks a document: 1 to 12. `events` has room for an event for each nine numbers, [`EVENT_LEN`]; those behind the last event stay as they were.
 ///
 /// Many paths may lead to the same bytes, so a hostile document can fill any buffer: the length of `events` is what bounds the work. A walk takes
-/// some 31,100 bytes of stack at most, whatever the document.
+/// some 31,100 bytes of stack at most, whatever the document, as measured with the older kit.
 pub fn walk<'e>(doc: &[u8], events: &'e mut [u32]) -> Walk<'e> {
     let mut row = [0; 2];
     let returned = calls::walk(doc, events, &mut row);

@@ -4,7 +4,6 @@ import argparse
 import fcntl
 import multiprocessing
 import os
-import platform
 import shlex
 import signal
 import subprocess
@@ -24,19 +23,15 @@ import shrink  # noqa: E402
 
 
 def our_command():
-    """Proves and builds our program, then what starts it on this machine: the same as ./run does."""
-    rt = subprocess.run(["sh", "-c", "readlink -f \"$(command -v rt)\""], capture_output=True, text=True).stdout.strip()
-    if not rt:
-        sys.exit("rt, the toolchain's command, is not on the path")
+    """Proves and builds our program, then what starts it: the same as ./run does."""
     os.makedirs(os.path.join(TOP, "target"), exist_ok=True)
+    folder = os.path.join(TOP, "crates", "answers")
     with open(os.path.join(TOP, "target", "run.lock"), "w") as lock:
         fcntl.flock(lock, fcntl.LOCK_EX)  # as ./run does: two of them wait for each other
-        if subprocess.run(["rt", "check", "answers"], cwd=TOP, stdout=sys.stderr).returncode:
+        if subprocess.run(["rt", "check"], cwd=folder, stdout=sys.stderr).returncode:
             sys.exit("rt check answers failed")
-    tools = os.path.join(os.path.dirname(os.path.dirname(rt)), "on", platform.machine(), "toolchain")
-    emulator = os.path.join(tools, "bin", "qemu-x86_64")
-    command = [emulator] if os.access(emulator, os.X_OK) else []
-    return command + [os.path.join(tools, "lib", "ld-linux-x86-64.so.2"), "--library-path", os.path.join(tools, "lib"), os.path.join(TOP, "target", "bin", "answers")]
+        subprocess.run(["rt", "run"], cwd=folder, stdin=subprocess.DEVNULL, stdout=subprocess.DEVNULL, stderr=subprocess.DEVNULL)  # builds it
+    return [os.path.join(folder, "out", "answers")]
 
 
 def rust_command(source):

@@ -1,4 +1,6 @@
 // How far a text is ASCII: bytes below 128, found in words of eight and blocks of words.
+#![tactic(auto)]
+
 ghost use Rattle.std.specs.Prelude.{◌≡◌, ◌+◌, ◌≤◌, ◌<◌, length, drop};
 ghost use Rattle.ascii.specs.Ascii.{low, ascii_end, front};
 ghost use Rattle.ascii.specs.Words.{le, ascii, past, Behind};

@@ -1,4 +1,6 @@
 // The numbers of binary JSON as enums: type codes and literals.
+#![tactic(auto)]
+
 mod literals;
 mod types;
 

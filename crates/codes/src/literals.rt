@@ -3,7 +3,7 @@ ghost use Rattle.std.specs.Prelude.{◌≡◌};
 ghost use Rattle.codes.specs.Literals.{code_of, type_of};
 
 // The literals of binary JSON.
-#[derive(Drop)]
+#[derive(Clone, Copy)]
 pub enum LiteralType {
     Null,
     True,
@@ -11,7 +11,7 @@ pub enum LiteralType {
 }
 
 // A known one, or a refusal.
-#[derive(Drop)]
+#[derive(Clone, Copy)]
 pub enum LiteralOf {
     Known(LiteralType),
     Refused(u8),

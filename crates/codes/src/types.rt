@@ -3,7 +3,7 @@ ghost use Rattle.std.specs.Prelude.{◌≡◌};
 ghost use Rattle.codes.specs.Types.{code_of, type_of};
 
 // The type codes of binary JSON, as json_binary.h numbers them.
-#[derive(Drop)]
+#[derive(Clone, Copy)]
 pub enum JsonbType {
     SmallObject,
     LargeObject,
@@ -22,7 +22,7 @@ pub enum JsonbType {
 }
 
 // A known one, or a refusal.
-#[derive(Drop)]
+#[derive(Clone, Copy)]
 pub enum TypeOf {
     Known(JsonbType),
     Refused(u8),

@@ -1,9 +1,11 @@
 // The numbers of MySQL's column types as an enum.
+#![tactic(auto)]
+
 ghost use Rattle.std.specs.Prelude.{◌≡◌};
 ghost use Rattle.columns.specs.Columns.{code_of, type_of};
 
 // MySQL's column types, as constants.rs takes them.
-#[derive(Drop)]
+#[derive(Clone, Copy)]
 pub enum ColumnType {
     Decimal,
     Tiny,
@@ -42,7 +44,7 @@ pub enum ColumnType {
 }
 
 // A known one, or a refusal.
-#[derive(Drop)]
+#[derive(Clone, Copy)]
 pub enum ColumnOf {
     Known(ColumnType),
     Refused(u8),

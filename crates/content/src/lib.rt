@@ -1,5 +1,7 @@
 // What stands at a place of a document: a scalar, or a container's view. Positions are absolute in the document; `end` is the end of the enclosing
 // container.
+#![tactic(auto)]
+
 ghost use Rattle.std.specs.Prelude.{◌≡◌, ◌≤◌, length};
 ghost use Rattle.std.specs.Float.{binary64};
 ghost use Rattle.std.specs.Float.Ieee.{nan_bits};
@@ -16,14 +18,14 @@ use length_field::Length;
 use value::{Number, Scalar, Span, Value, View};
 
 // A value, or a refusal.
-#[derive(Drop)]
+#[derive(Clone, Copy)]
 pub enum Read {
     Value(Value),
     Refused(u8),
 }
 
 // The bytes after a length field, or a refusal.
-#[derive(Drop)]
+#[derive(Clone, Copy)]
 pub enum Part {
     Bytes(Span),
     Refused(u8),

@@ -1,8 +1,8 @@
 // MySQL's decimals: packed bytes and text, there and back, and their order by value.
+#![tactic(auto)]
+
 mod reader;
 
-pub use groups::Counted;
-// The bytes that a decimal of this precision and scale takes, by the name that it has in the Rust.
 ghost use Rattle.std.specs.Prelude.{◌≡◌};
 ghost use Rattle.groups.specs.Write.{told as count_told};
 ghost use Rattle.order.specs.Value.{told};
@@ -11,12 +11,15 @@ ghost use Rattle.decimal.specs.Write.{bin_size, write_bin, bin_leaves};
 ghost use Rattle.decimal.specs.Text.{parse_text, print_told, print_leaves};
 ghost use Rattle.decimal.specs.Value.{compare_told};
 
+pub use groups::Counted;
+
+// The bytes that a decimal of this precision and scale takes, by the name that it has in the Rust.
 pub use groups::size as decimal_bin_size;
 pub use order::Compared;
 
 // A decimal: as many integral and fractional digits, a sign, and the digits in groups of nine from the point outwards. The groups of
 // the fraction are stored as if each had nine digits, unused groups are 0, and a zero has no sign.
-#[derive(Drop)]
+#[derive(Clone, Copy)]
 pub struct Decimal {
     pub intg: usize,
     pub frac: usize,
@@ -25,7 +28,7 @@ pub struct Decimal {
 }
 
 // A decimal, or a refusal with positive 0. The refusal is 0 where there is none.
-#[derive(Drop)]
+#[derive(Clone, Copy)]
 pub struct Answer {
     pub refusal: u8,
     pub decimal: Decimal,

@@ -31,7 +31,7 @@ pub enum Over {
 }
 
 // The place after a step, and where the output goes on.
-#[derive(Drop)]
+#[derive(Clone, Copy)]
 struct Stepped {
     pos: u32,
     at: usize,

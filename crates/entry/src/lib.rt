@@ -1,4 +1,6 @@
 // The value entries of a container: the value at a position, by the container's view.
+#![tactic(auto)]
+
 ghost use Rattle.std.specs.Prelude.{◌≡◌, ◌+◌, ◌<◌, length, get_or};
 ghost use Rattle.codes.specs.Types.{type_of};
 ghost use Rattle.layout.specs.Layout.{offset_size};

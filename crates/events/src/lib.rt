@@ -1,4 +1,6 @@
 // One event of the walk: what it says of a value, and for how many of them a lent list has room.
+#![tactic(auto)]
+
 ghost use Rattle.std.specs.Prelude.{◌≡◌, ◌+◌, ◌*◌, ◌≤◌, length};
 ghost use Rattle.events.specs.Events.{kind_code, code_of, bytes_of, bytes_from, scalar_part, part_of, scalar_extra, extra_of, event_of};
 ghost use Rattle.events.specs.Lay.{room};
@@ -11,7 +13,7 @@ use value::{Scalar, Span, Value};
 pub const WIDE: usize = 9;
 
 // An event: the type code, the depth, the position, the key's bytes, the value's bytes, a count or a column type, and the index of the container's event.
-#[derive(Drop)]
+#[derive(Clone, Copy)]
 pub struct Event {
     pub code: u32,
     pub depth: u32,
@@ -23,7 +25,7 @@ pub struct Event {
 }
 
 // Where a value stands: its path's length and last position, the index of its container's event, its entry's place, its key, and its own first byte.
-#[derive(Drop)]
+#[derive(Clone, Copy)]
 pub struct Spot {
     pub depth: u32,
     pub position: u32,
@@ -34,7 +36,7 @@ pub struct Spot {
 }
 
 // How a walk ends: after so many events, or at a refusal, its number and its place.
-#[derive(Drop)]
+#[derive(Clone, Copy)]
 pub enum Walked {
     Done {
         count: usize,

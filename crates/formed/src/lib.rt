@@ -1,5 +1,7 @@
 // Which records are decimals: digits within the limits, each group below the power of its digits, the last of a fraction scaled, all others 0, and no sign
 // on zero; and the sign of a decimal that is read.
+#![tactic(auto)]
+
 ghost use Rattle.std.specs.Prelude.{◌≡◌, ◌+◌, ◌≤◌, get_or};
 ghost use Rattle.groups.specs.Numbers.{all};
 ghost use Rattle.groups.specs.Course.{capped_at};

@@ -1,4 +1,6 @@
 // What comes before any entry of a container is looked at, and the answers of what looks at one.
+#![tactic(auto)]
+
 ghost use Rattle.std.specs.Prelude.{◌≡◌};
 ghost use Rattle.gate.specs.Said.{read_said, part_said, found_said, key_said};
 ghost use Rattle.gate.specs.Before.{matches, gate_of};
@@ -8,7 +10,7 @@ use header::Header;
 use value::{Span, Value, View};
 
 // An element: a value, nothing at or past the count, or a refusal.
-#[derive(Drop)]
+#[derive(Clone, Copy)]
 pub enum Found {
     Value(Value),
     Nothing,
@@ -16,7 +18,7 @@ pub enum Found {
 }
 
 // A key's bytes, nothing, or a refusal.
-#[derive(Drop)]
+#[derive(Clone, Copy)]
 pub enum Key {
     Key(Span),
     Nothing,
@@ -24,7 +26,7 @@ pub enum Key {
 }
 
 // Whether an entry may be looked at.
-#[derive(Drop)]
+#[derive(Clone, Copy)]
 pub enum Gate {
     Open,
     Nothing,

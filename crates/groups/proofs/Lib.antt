@@ -13,4 +13,4 @@ pub mod Opened
 pub mod Caps
 pub mod Widths
 pub mod Sign
-pub mod Sides
+pub mod SidesLaws

@@ -6,7 +6,7 @@ use Prim.Native.Nat.{ℕ, zero, suc, ◌+◌, ◌≤◌}
 use native.Mathlib.Omega.{arith}
 use Rattle.groups.specs.Layout.{width, form_of, offset, size_in, size, Plain, Inverted, Digits}
 use Rattle.groups.specs.Sides.{sides_size}
-use Rattle.groups.proofs.Sides.{size-sides}
+use Rattle.groups.proofs.SidesLaws.{size-sides}
 
 pub width-le : (d : ℕ) → width d ≤ 4
 unfolding width

@@ -40,7 +40,7 @@ pub fn power(d: usize) -> u32
 // of both sides, from the place `first` on and before `last`, those of the fraction from `point` on; at `last` stand the digits of the
 // fraction that fill none. `lead` and `tail` count the digits of the two rests; without a tail `last` is the place after the last group.
 // The bytes of the two rests are `front` and `back`, and those of all groups `size`.
-#[derive(Drop)]
+#[derive(Clone, Copy)]
 pub struct Sides {
     pub size: usize,
     pub lead: usize,

@@ -1,5 +1,7 @@
 // Whether a document has a place and an end, and the header of a container there. Positions are absolute in the document; `end` is the end of the
 // enclosing container.
+#![tactic(auto)]
+
 ghost use Rattle.std.specs.Prelude.{◌≡◌, length};
 ghost use Rattle.header.specs.Headers.{header_at, place_fault, header_read};
 ghost use Rattle.header.specs.Course.{Within};
@@ -7,7 +9,7 @@ ghost use Rattle.header.specs.Course.{Within};
 use layout::{Kind, offset_at};
 
 // Count and size of a container, or a refusal.
-#[derive(Drop)]
+#[derive(Clone, Copy)]
 pub enum Header {
     Whole { count: u32, size: u32 },
     Refused(u8),

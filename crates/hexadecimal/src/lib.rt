@@ -6,7 +6,7 @@ ghost use Rattle.request.specs.Test.{is_in};
 ghost use Rattle.hexadecimal.specs.Hex.{digit as digit_of, are_pairs, pairs, is_hex, bytes_of, bytes_leave};
 
 // How many bytes a word writes.
-#[derive(Drop)]
+#[derive(Clone, Copy)]
 pub enum Taken {
     Bytes(usize),
     Nothing,

@@ -1,4 +1,6 @@
 // MySQL's binary JSON: the root, containers by their views, elements, keys and members.
+#![tactic(auto)]
+
 mod root;
 mod views;
 
@@ -13,7 +15,7 @@ pub use value::{CountOf, FieldOf, Number, Scalar, Span, Value, View};
 pub use views::{elem_at, element_count, key_at};
 
 // A count, or a refusal.
-#[derive(Drop)]
+#[derive(Clone, Copy)]
 pub enum Count {
     Count(u32),
     Refused(u8),

@@ -149,7 +149,7 @@ fn read_some<R: Read>(input: &mut R, buf: &mut [u8], done: usize) -> io::Result<
 }
 
 // What came until the input ended or the buffer was full, or a read that failed.
-#[derive(Drop)]
+#[derive(Clone, Copy)]
 enum Input {
     Bytes(usize),
     Failed(io::Error),

@@ -1,10 +1,12 @@
 // What is left of a decimal's integral digits and groups where its precision is not kept.
+#![tactic(auto)]
+
 ghost use Rattle.std.specs.Prelude.{◌≡◌, ◌+◌, ◌≤◌, length, get_or};
 ghost use Rattle.groups.specs.Numbers.{tab, leading_in};
 ghost use Rattle.kept.specs.Kept.{without_leading};
 
 // Integral digits, and the groups of a decimal that has so many.
-#[derive(Drop)]
+#[derive(Clone, Copy)]
 pub struct Kept {
     pub intg: usize,
     pub groups: [u32; 9],

@@ -1,4 +1,6 @@
 // The key entries of an object: the key at a position, by the object's view.
+#![tactic(auto)]
+
 ghost use Rattle.std.specs.Prelude.{◌≡◌, length};
 ghost use Rattle.header.specs.Course.{Within};
 ghost use Rattle.entry.specs.Entries.{end_of, key_of, key_read};

@@ -1,9 +1,11 @@
 // A container's layout: what kinds there are, and where the entries stand.
+#![tactic(auto)]
+
 ghost use Rattle.std.specs.Prelude.{◌≡◌, ◌<◌, ◌≤◌};
 ghost use Rattle.layout.specs.Layout.{offset_size, key_entry, key_place, value_place, header_size, offset_at};
 
 // What a container is: an object or an array, with offsets of four bytes or of two.
-#[derive(Drop)]
+#[derive(Clone, Copy)]
 pub struct Kind {
     pub object: bool,
     pub large: bool,

@@ -1,9 +1,11 @@
 // The length field of strings and opaque values, at a place of a document and never past an end.
+#![tactic(auto)]
+
 ghost use Rattle.std.specs.Prelude.{◌≡◌, ◌+◌, ◌<◌, ◌^◌};
 ghost use Rattle.length_field.specs.Length.{got, field_of, told, length_at};
 
 // A length field: the length, and the place past the field; or a refusal.
-#[derive(Drop)]
+#[derive(Clone, Copy)]
 pub enum Length {
     Field { length: u32, next: usize },
     Refused(u8),

@@ -17,7 +17,7 @@ use Rattle.groups.specs.declared.layout.Sides.{Sides}
 use Rattle.groups.proofs.Caps.{below_or_not}
 use Rattle.groups.proofs.Places.{power-is, pow-pos10, nine}
 use Rattle.groups.proofs.Tab.{filled, zeros-at}
-use Rattle.groups.proofs.Sides.{Cut, lead_number, whole_number, tail_number, lead-stored, whole-stored, tail-stored, past-stored, each-place}
+use Rattle.groups.proofs.SidesLaws.{Cut, lead_number, whole_number, tail_number, lead-stored, whole-stored, tail-stored, past-stored, each-place}
 use Rattle.numeral.specs.Read.{run, digits_in}
 use Rattle.numeral.specs.Course.{fraction_at, DigitsFrom, number_at, Nines}
 use Rattle.numeral.specs.declared.reader.Fraction.TheVariants.{Places}

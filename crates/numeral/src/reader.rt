@@ -82,7 +82,7 @@ fn digit_run(text: &[u8], from: usize) -> usize
 }
 
 // What follows the integral digits: so many digits after a point, to the end, or something else.
-#[derive(Drop)]
+#[derive(Clone, Copy)]
 pub enum Fraction {
     Places(usize),
     Other,

@@ -8,7 +8,7 @@ use decimal::{Answer, Decimal};
 use value::{Scalar, Span, Value};
 
 // The bytes of an opaque value whose column type is Newdecimal, nothing for others.
-#[derive(Drop)]
+#[derive(Clone, Copy)]
 pub enum DecimalPart {
     Bytes(Span),
     Nothing,

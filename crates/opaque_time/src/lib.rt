@@ -1,4 +1,6 @@
 // Opaque values that are dates or times: the hand-over from a document to the crate `time`.
+#![tactic(auto)]
+
 ghost use Rattle.std.specs.Prelude.{◌≡◌};
 ghost use Rattle.time.specs.Answers.{read_says};
 ghost use Rattle.opaque_time.specs.Handed.{typed_part, column_part, scalar_part, time_part, opaque_told};
@@ -8,7 +10,7 @@ use time::{MysqlTime, TimeRead, TimeType, TimeTypeOf};
 use value::{Scalar, Span, Value};
 
 // The type and the bytes of an opaque value whose column type is one of the four, nothing for others.
-#[derive(Drop)]
+#[derive(Clone, Copy)]
 pub enum TimePart {
     Bytes(TimeType, Span),
     Nothing,

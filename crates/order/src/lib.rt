@@ -1,4 +1,6 @@
 // The order of decimals by value, of their signs, digits and groups.
+#![tactic(auto)]
+
 ghost use Rattle.std.specs.Prelude.{◌≡◌, ◌<◌, ◌≤◌, length, get_or};
 ghost use Rattle.groups.specs.Numbers.{number};
 ghost use Rattle.groups.specs.Sign.{below_zero};
@@ -6,7 +8,7 @@ ghost use Rattle.order.specs.Value.{magnitude, value_of, told, order_z, compare_
 ghost use Rattle.order.specs.Course.{NineGroups, placed, order_n};
 
 // The order of two decimals by value, or a refusal.
-#[derive(Drop)]
+#[derive(Clone, Copy)]
 pub enum Compared {
     Less,
     Equal,

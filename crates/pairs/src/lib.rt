@@ -1,5 +1,7 @@
 // How far a text is made of characters of one and two bytes. Whether a byte may stand behind another is told by these two bytes alone, so that
 // blocks may overlap, and the compiler tests the sixteen pairs of a block at once.
+#![tactic(auto)]
+
 ghost use Rattle.std.specs.Prelude.{◌≡◌, true, ◌+◌, ◌≤◌, ◌<◌, length};
 ghost use Rattle.pairs.specs.Pairs.{lead, tail, right, Rights};
 

@@ -1,5 +1,7 @@
 // The groups of a decimal, printed without the digits between: the first group is printed without padding, and all others are nine wide, but for the
 // last of the fraction.
+#![tactic(auto)]
+
 ghost use Rattle.std.specs.Prelude.{◌≡◌, true, ◌∷◌, ◌++◌, map, ◌+◌, ◌-◌, ◌*◌, ◌/◌, ◌%◌, ◌^◌, ◌<◌, ◌≤◌, length, take, drop};
 ghost use Rattle.groups.specs.Numbers.{digits};
 ghost use Rattle.groups.specs.Write.{told, well_groups, digits_to, room_told, room_leaves};

@@ -1,4 +1,6 @@
 // Marks in their order. It shows how a proof cites a law of the order: two comparisons tell of three marks, since less-or-equal carries through a third.
+#![tactic(auto)]
+
 ghost use Rattle.std.specs.Prelude.{◌≡◌};
 ghost use Rattle.order_laws.specs.Order.{is_le};
 ghost use Rattle.ranks.specs.Ranks.{in_order};

@@ -18,7 +18,7 @@ use Rattle.groups.specs.Sides.{rest, lead_places, wholes}
 use Rattle.groups.specs.Read.{range_at, stored_at, no_groups, groups_in}
 use Rattle.groups.proofs.Caps.{same_test, below_or_not}
 use Rattle.groups.proofs.Places.{pow-pos10, nine}
-use Rattle.groups.proofs.Sides.{lead-range, lead-stored, whole-range, whole-stored, tail-range, tail-stored, past-range, past-stored}
+use Rattle.groups.proofs.SidesLaws.{lead-range, lead-stored, whole-range, whole-stored, tail-range, tail-stored, past-range, past-stored}
 use Rattle.groups.proofs.Tab.{fill_more, filled, all_true, all-false, zeros-at}
 
 -- d digits are below 10 to the d if the group of nine that holds them is below 10 to the 9

@@ -1,4 +1,6 @@
 // The packed form of a decimal, read to its groups: the integral rest, the whole groups of both sides, the rest of the fraction.
+#![tactic(auto)]
+
 ghost use Rattle.std.specs.Prelude.{◌≡◌, ◌+◌, ◌-◌, ◌*◌, ◌^◌, ◌<◌, ◌≤◌, length, take, drop};
 ghost use Rattle.groups.specs.Numbers.{number};
 ghost use Rattle.groups.specs.Layout.{size, form_of};

@@ -8,7 +8,7 @@ use output::{
 };
 
 // Where the output goes on, and whether every byte outside the result is as it was.
-#[derive(Drop)]
+#[derive(Clone, Copy)]
 struct Written {
     at: usize,
     is_kept: bool,

@@ -1,4 +1,5 @@
 // The refusal numbers of the project, by name. Every answer that refuses holds one of them; specs/Told.antt says how an answer is told.
+#![tactic(auto)]
 
 // The document is longer than 16,777,216 bytes.
 pub const DOCUMENT: u8 = 1;

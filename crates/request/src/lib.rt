@@ -6,7 +6,7 @@ ghost use Rattle.request.specs.Find.{before};
 ghost use Rattle.request.specs.Number.{number_of};
 
 // A number below 2 to the 32.
-#[derive(Drop)]
+#[derive(Clone, Copy)]
 pub enum Parsed {
     Number(u32),
     Nothing,

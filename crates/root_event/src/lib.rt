@@ -1,4 +1,6 @@
 // The root of a document as the first event of a list.
+#![tactic(auto)]
+
 ghost use Rattle.std.specs.Prelude.{◌≡◌, ◌+◌, ◌*◌, ◌≤◌, length};
 ghost use Rattle.events.specs.Events.{wide as event_wide, event_of};
 ghost use Rattle.events.specs.Listing.{end, event};

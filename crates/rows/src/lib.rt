@@ -1,5 +1,7 @@
 // Values of documents as numbers in a lent slice, for programs in other languages. Each function returns a refusal's number, or 0, and stores the
 // answer's numbers at the front; a slice that is too short is refused by 25, and a refusal changes nothing.
+#![tactic(auto)]
+
 mod store;
 mod values;
 

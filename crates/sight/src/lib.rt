@@ -1,5 +1,7 @@
 // What an event shows of the value in an entry: its type code, its bytes, and a count or a column type. The value itself is not made, so that a walk
 // costs no more than it shows.
+#![tactic(auto)]
+
 ghost use Rattle.std.specs.Prelude.{◌≡◌, false, cond, ◌+◌, ◌<◌, ◌≤◌, length, get_or, take, drop};
 ghost use Rattle.raw.specs.Numbers.{value};
 ghost use Rattle.codes.specs.Types.{type_of};
@@ -19,7 +21,7 @@ use length_field::Length;
 use value::Span;
 
 // What an event shows of a value, or a refusal with zeros. The refusal is 0 where there is none.
-#[derive(Drop)]
+#[derive(Clone, Copy)]
 pub struct Sight {
     pub refusal: u8,
     pub code: u32,

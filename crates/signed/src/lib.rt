@@ -1,4 +1,6 @@
 // Signed little-endian numbers: the upper half of the patterns of so many bits stands for the numbers below 0. What is not there counts as 0, as in `raw`.
+#![tactic(auto)]
+
 ghost use Rattle.std.specs.Prelude.{◌≡◌, suc, ◌+◌, ◌-◌, ◌≤◌, ◌<◌, ltb, pos, negsuc};
 ghost use Rattle.std.specs.Int.{w16, w32, w64};
 ghost use mir.Val.{sel, to_z};

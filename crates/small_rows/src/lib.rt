@@ -1,6 +1,8 @@
 // Keys, counts and ends of walks as numbers in a lent slice, for programs in other languages. Each function returns a refusal's number, or 0, and stores the
 // answer's numbers at the front; a slice that is too short is refused by 25, and a refusal changes nothing, but for a walk's, of which the count
 // and the place are stored.
+#![tactic(auto)]
+
 ghost use Rattle.std.specs.Prelude.{◌≡◌, [], ◌∷◌, ◌≤◌, length};
 ghost use Rattle.gate.specs.Said.{key_said};
 ghost use Rattle.jsonb.specs.Views.{count_said};

@@ -1,4 +1,6 @@
 // Iteration over a container: a place by value, and a step that gives the item and the place that follows.
+#![tactic(auto)]
+
 ghost use Rattle.std.specs.Prelude.{◌≡◌, not};
 ghost use Rattle.entry.specs.Entries.{entry_read, key_read};
 ghost use Rattle.gate.specs.Said.{read_said, part_said, found_said, key_said};
@@ -9,47 +11,47 @@ use gate::{Found, Gate, Key, found_of, gate_at, key_of};
 use value::{Span, Value, View};
 
 // A place in an iteration over the elements of an array.
-#[derive(Drop)]
+#[derive(Clone, Copy)]
 pub struct Elements {
     pub view: View,
     pub at: u32,
 }
 
-#[derive(Drop)]
+#[derive(Clone, Copy)]
 pub struct Element {
     pub item: Found,
     pub next: Elements,
 }
 
 // A place in an iteration over the keys of an object.
-#[derive(Drop)]
+#[derive(Clone, Copy)]
 pub struct Keys {
     pub view: View,
     pub at: u32,
 }
 
-#[derive(Drop)]
+#[derive(Clone, Copy)]
 pub struct KeyStep {
     pub item: Key,
     pub next: Keys,
 }
 
 // A place in an iteration over the members of an object.
-#[derive(Drop)]
+#[derive(Clone, Copy)]
 pub struct Members {
     pub view: View,
     pub at: u32,
 }
 
 // A member: its key and its value, nothing, or a refusal.
-#[derive(Drop)]
+#[derive(Clone, Copy)]
 pub enum Member {
     Member(Span, Value),
     Nothing,
     Refused(u8),
 }
 
-#[derive(Drop)]
+#[derive(Clone, Copy)]
 pub struct MemberStep {
     pub item: Member,
     pub next: Members,

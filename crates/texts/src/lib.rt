@@ -1,4 +1,6 @@
 // The text test of a document's keys and strings.
+#![tactic(auto)]
+
 ghost use Rattle.std.specs.Prelude.{◌≡◌};
 ghost use Rattle.events.specs.Text.{text_at, is_valid, break_or};
 ghost use Rattle.texts.specs.Course.{bad_byte};

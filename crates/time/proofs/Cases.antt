@@ -1,17 +1,16 @@
 -- What reading and writing answer and leave, each by the tests that lead to it, as the functions' proofs cite them.
 -- Assumes nothing.
-use mathlib.Core.Path.{◌≡◌, refl, sym, ap, ◌∙◌}
+use mathlib.Core.Path.{◌≡◌, sym, ap, ◌∙◌}
 use mathlib.Core.Bool.{Bool, true, false, cond}
 use mathlib.Core.List.{List, [], ◌∷◌, ◌++◌}
 use Prim.Native.Nat.{ℕ, ◌≤◌, ◌<◌}
 use native.Mathlib.Omega.{arith}
-use lib.IntN.{ℤ}
-use lib.ListN.{length, take, drop}
+use lib.ListN.{length, drop}
 use borrow.Author.Tests.{lt-ltb, le-ltb}
 use mir.Syntax.{w64}
 use mir.Val.{to_z}
-use Rattle.refusal.specs.Told.{Told, answer, refusal}
-use Rattle.raw.specs.Numbers.{value, le}
+use Rattle.refusal.specs.Told.{answer, refusal}
+use Rattle.raw.specs.Numbers.{le}
 use Rattle.raw.proofs.Bounds.{le-inside}
 use Rattle.time.specs.declared.TimeType.{TimeType}
 use Rattle.time.specs.declared.MysqlTime.{MysqlTime}

@@ -1,11 +1,10 @@
 -- A record whose fields are those of a magnitude is the time or the date of that magnitude, field by field.
 -- Assumes nothing.
-use mathlib.Core.Path.{◌≡◌, refl}
+use mathlib.Core.Path.{◌≡◌}
 use mathlib.Core.Bool.{Bool}
 use Prim.Native.Nat.{ℕ, ◌/◌, ◌%◌}
 use Rattle.time.specs.declared.TimeType.{TimeType}
 use Rattle.time.specs.declared.TimeType.TheVariants as type
-use Rattle.time.specs.declared.MysqlTime.{MysqlTime}
 use Rattle.time.specs.Packed.{micro_of, second_of, minute_of, hours_of, hour_of, day_of, year_and_month, time_of, date_of}
 
 module _ (below : Bool) (m : ℕ) {minute second : ℕ} (p : minute ≡ minute_of m) (q : second ≡ second_of m) where

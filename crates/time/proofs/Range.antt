@@ -1,13 +1,11 @@
 -- The test of a record's fields against another's, test by test: the first field that is above decides, and else the last test. What the whole test then says of
 -- each field, for those that need bounds.
 -- Assumes nothing.
-use mathlib.Core.Path.{◌≡◌, refl, sym, ap, subst, ◌∙◌}
-use mathlib.Core.Bool.{Bool, true, false, not, cond, ◌&&◌, ◌||◌}
-use Prim.Native.Nat.{ℕ, ◌≤◌, ◌<◌}
+use mathlib.Core.Path.{◌≡◌, refl, sym, subst}
+use mathlib.Core.Bool.{Bool, true, false, not, cond, ◌&&◌}
+use Prim.Native.Nat.{◌≤◌, ◌<◌}
 use lib.Dec.{leb}
 use borrow.Author.Tests.{le-leb, lt-leb, leb-true}
-use Rattle.time.specs.declared.TimeType.{TimeType}
-use Rattle.time.specs.declared.TimeType.TheVariants as type
 use Rattle.time.specs.declared.MysqlTime.{MysqlTime}
 use Rattle.time.specs.Packed.{is_time}
 use Rattle.time.specs.Ranges.{greatest, within, is_zero, sign_allowed, in_range}

@@ -1,7 +1,7 @@
 -- What reading and writing answer, and what writing leaves (document 02, W4). Reading: 31 for fewer than eight bytes, then 30 for a field out of range. Writing: 30,
 -- then 25, and then the output is as it was; else its first eight bytes are the packed form. The types by their numbers: those of MySQL's column types.
 -- Assumes nothing.
-use Rattle.std.specs.Prelude.{ℕ, Bool, cond, List, [], ◌∷◌, ◌++◌, ltb, eqb, length, drop}
+use Rattle.std.specs.Prelude.{ℕ, cond, List, [], ◌∷◌, ◌++◌, ltb, eqb, length, drop}
 use Rattle.refusal.specs.Told.{Told, answer, refusal}
 use Rattle.time.specs.Packed.{number, fields_of, packed}
 use Rattle.time.specs.Ranges.{in_range}

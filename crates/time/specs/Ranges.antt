@@ -1,7 +1,7 @@
 -- Which fields a date or a time may have (document 02, W4). Each lies between 0 and that of the greatest value of its type, so a plain date has no clock part
 -- and a time no date part; a date value and a zero are not negative.
 -- Assumes nothing.
-use Rattle.std.specs.Prelude.{Bool, true, false, not, ◌&&◌, ◌||◌, leb}
+use Rattle.std.specs.Prelude.{Bool, false, not, ◌&&◌, ◌||◌, leb}
 use Rattle.time.specs.declared.TimeType.{TimeType}
 use Rattle.time.specs.declared.TimeType.TheVariants as type
 use Rattle.time.specs.declared.MysqlTime.{MysqlTime}

@@ -1,4 +1,6 @@
 // MySQL's dates and times in their packed form, read and written: see specs/.
+#![tactic(auto)]
+
 mod fields;
 mod ranges;
 
@@ -6,7 +8,7 @@ ghost use Rattle.std.specs.Prelude.{◌≡◌};
 ghost use Rattle.time.specs.Answers.{code_of, type_of, read_says, read_told, written_says, write_told, write_leaves};
 
 // The four types, as columns have them.
-#[derive(Drop)]
+#[derive(Clone, Copy)]
 pub enum TimeType {
     Timestamp,
     Date,
@@ -15,14 +17,14 @@ pub enum TimeType {
 }
 
 // The type of a number, where it is one of the four.
-#[derive(Drop)]
+#[derive(Clone, Copy)]
 pub enum TimeTypeOf {
     Known(TimeType),
     Other,
 }
 
 // A date, a time, or both. The packed form has no time zone.
-#[derive(Drop)]
+#[derive(Clone, Copy)]
 pub struct MysqlTime {
     pub year: u32,
     pub month: u32,
@@ -37,14 +39,14 @@ pub struct MysqlTime {
 }
 
 // What was read, or a refusal.
-#[derive(Drop)]
+#[derive(Clone, Copy)]
 pub enum TimeRead {
     Time(MysqlTime),
     Refused(u8),
 }
 
 // Eight bytes were written, or none, with a refusal.
-#[derive(Drop)]
+#[derive(Clone, Copy)]
 pub enum TimeWritten {
     Written,
     Refused(u8),

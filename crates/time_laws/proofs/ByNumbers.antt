@@ -3,13 +3,13 @@
 use mathlib.Core.Path.{◌≡◌, refl, sym, ap, subst, ◌∙◌}
 use mathlib.Core.Bool.{Bool, true, false, cond}
 use mathlib.Core.List.{List, [], ◌∷◌, ◌++◌, append-nil}
-use Prim.Native.Nat.{ℕ, zero, suc, ◌+◌, ◌*◌, ◌-◌, ◌^◌, ◌≤◌, ◌<◌}
+use Prim.Native.Nat.{ℕ, zero, suc, ◌+◌, ◌-◌, ◌≤◌, ◌<◌}
 use native.Mathlib.Omega.{arith}
-use lib.IntN.{ℤ, pos, negsuc, neg_ℤ, nat_abs}
-use lib.ListN.{length, take, drop}
+use lib.IntN.{pos, negsuc, neg_ℤ}
+use lib.ListN.{length, take}
 use mir.Syntax.{w64}
-use mir.Val.{SFits, of_z}
-use Rattle.refusal.specs.Told.{Told, answer, refusal}
+use mir.Val.{of_z}
+use Rattle.refusal.specs.Told.{answer, refusal}
 use Rattle.raw.specs.Numbers.{bytes_of}
 use Rattle.raw.proofs.Values.{Bytes}
 use Rattle.time.specs.declared.TimeType.{TimeType}
@@ -17,7 +17,7 @@ use Rattle.time.specs.declared.TimeType.TheVariants as type
 use Rattle.time.specs.declared.MysqlTime.{MysqlTime}
 use Rattle.time.specs.Packed.{time_of, date_of, fields_of, above_minutes, magnitude_of, number_of, packed}
 use Rattle.time.specs.Answers.{numbers, read_told, write_told, write_leaves}
-use Rattle.time_laws.specs.Accepted.{DateAndTime, PlainDate, PlainTime, Accepted}
+use Rattle.time_laws.specs.Accepted.{PlainDate, PlainTime, Accepted}
 use Rattle.time_laws.specs.ByNumbers.{clock, calendar, ByNumbers}
 use Rattle.time_laws.proofs.Ranges.{in-range}
 use Rattle.time_laws.proofs.Undone.{fields-again}

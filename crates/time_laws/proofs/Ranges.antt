@@ -2,9 +2,8 @@
 -- Assumes nothing.
 use mathlib.Core.Path.{◌≡◌, refl, sym, ap, subst, ◌∙◌}
 use mathlib.Core.Bool.{Bool, true, false, not, cond, ◌&&◌, ◌||◌}
-use Prim.Native.Nat.{ℕ, zero, suc, ◌+◌, ◌≤◌, ◌<◌}
+use Prim.Native.Nat.{ℕ, zero, suc, ◌+◌, ◌<◌}
 use native.Mathlib.Omega.{arith}
-use lib.Dec.{leb}
 use borrow.Author.Tests.{le-leb}
 use Rattle.time.specs.declared.TimeType.{TimeType}
 use Rattle.time.specs.declared.TimeType.TheVariants as type
@@ -12,7 +11,7 @@ use Rattle.time.specs.declared.MysqlTime.{MysqlTime}
 use Rattle.time.specs.Packed.{is_time}
 use Rattle.time.specs.Ranges.{greatest, nought, within, is_zero, sign_allowed, in_range}
 use Rattle.time.proofs.Range.{Within, last, each_within, range-within, range-sign, fields-in-range}
-use Rattle.time_laws.specs.Accepted.{DateAndTime, PlainDate, PlainTime, Accepted}
+use Rattle.time_laws.specs.Accepted.{Accepted}
 
 not-both : false ≡ true → ⊥
 not-both e = subst (λ (b : Bool). cond b ⊥ (Unit {0})) e tt

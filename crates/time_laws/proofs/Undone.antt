@@ -3,7 +3,7 @@
 -- Assumes nothing.
 use mathlib.Core.Path.{◌≡◌, refl, sym, ap, ◌∙◌}
 use mathlib.Core.Bool.{Bool, true, false, cond}
-use Prim.Native.Nat.{ℕ, zero, suc, ◌+◌, ◌*◌, ◌/◌, ◌%◌, ◌≤◌, ◌<◌}
+use Prim.Native.Nat.{ℕ, zero, suc, ◌+◌, ◌*◌, ◌/◌, ◌%◌, ◌<◌}
 use native.Mathlib.Omega.{arith}
 use lib.IntN.{ℤ, pos, negsuc, neg_ℤ, nat_abs}
 use Rattle.time.specs.declared.TimeType.{TimeType}
@@ -12,7 +12,7 @@ use Rattle.time.specs.declared.MysqlTime.{MysqlTime}
 use Rattle.time.specs.Packed.{is_below, is_time, time_of, date_of, fields_of, date_and_hour, above_minutes, magnitude_of, number_of}
 use Rattle.time.specs.Ranges.{in_range}
 use Rattle.time.proofs.Number.{above-of-time, above-of-date, is-magnitude, negative-above-zero}
-use Rattle.time_laws.specs.Accepted.{DatePart, ClockPart, DateAndTime, PlainDate, PlainTime, Accepted}
+use Rattle.time_laws.specs.Accepted.{DatePart, ClockPart, PlainTime, Accepted}
 use Rattle.time_laws.proofs.Ranges.{accepts}
 
 -- ---- the sign and the magnitude of a number

@@ -1,7 +1,7 @@
 -- What reading and writing promise by numbers alone: of the definitions only the bytes of a number, and what is read and written, are named here. It follows from
 -- `RoundTrip`, each line of which it uses.
 -- Assumes nothing.
-use Rattle.std.specs.Prelude.{ℕ, ◌+◌, ◌*◌, ◌-◌, ◌≤◌, ◌<◌, ◌≡◌, true, false, List, [], ◌∷◌, ◌++◌, take}
+use Rattle.std.specs.Prelude.{ℕ, ◌+◌, ◌*◌, ◌-◌, ◌≤◌, ◌<◌, ◌≡◌, true, List, [], ◌∷◌, ◌++◌, take}
 use Rattle.refusal.specs.Told.{answer, refusal}
 use Rattle.raw.specs.Numbers.{bytes_of}
 use Rattle.raw.proofs.Values.{Bytes}

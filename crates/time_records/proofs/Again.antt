@@ -6,10 +6,9 @@ use mathlib.Core.List.{List, ◌++◌}
 use Prim.Native.Nat.{ℕ}
 use native.Mathlib.Omega.{arith}
 use Rattle.lent.specs.Layout.{flag}
-use Rattle.time.specs.Answers.{code_of, type_of, numbers}
+use Rattle.time.specs.Answers.{numbers}
 use Rattle.time.proofs.Types.{type-found}
 use Rattle.time.specs.declared.MysqlTime.{MysqlTime}
-use Rattle.time.specs.declared.TimeType.{TimeType}
 use Rattle.time.specs.declared.TimeTypeOf.{TimeTypeOf}
 use Rattle.time_records.specs.declared.TimeRecord.TheVariants as the_record
 use Rattle.time_records.specs.TimeRecords.{time_in, record_of, time_by}

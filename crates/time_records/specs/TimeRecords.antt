@@ -9,7 +9,7 @@ use Rattle.time.specs.declared.TimeType.{TimeType}
 use Rattle.time.specs.declared.TimeTypeOf.{TimeTypeOf}
 use Rattle.time.specs.declared.TimeTypeOf.TheVariants.{Known, Other}
 use Rattle.time_records.specs.declared.TimeRecord.{TimeRecord}
-use Rattle.time_records.specs.declared.TimeRecord.TheVariants as record_of
+use Rattle.time_records.specs.declared.TimeRecord.TheVariants as the_record
 
 unfoldable pub time_in : TimeType → List ℕ → MysqlTime
 time_in k xs =
@@ -26,8 +26,8 @@ time_in k xs =
     }
 
 abbrev pub record_of : TimeTypeOf → List ℕ → TimeRecord
-record_of (Known k) xs = record_of.Time (time_in k xs)
-record_of Other xs = record_of.Nothing
+record_of (Known k) xs = the_record.Time (time_in k xs)
+record_of Other xs = the_record.Nothing
 
 unfoldable pub time_by : List ℕ → TimeRecord
-time_by xs = cond (ltb (length xs) 9) record_of.Nothing (record_of (type_of (get_or xs 8 0)) xs)
+time_by xs = cond (ltb (length xs) 9) the_record.Nothing (record_of (type_of (get_or xs 8 0)) xs)

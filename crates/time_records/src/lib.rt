@@ -1,5 +1,7 @@
 // Dates and times as nine numbers in a lent slice, for programs in other languages. What stores them returns a refusal's number, or 0, and stores the numbers at
 // the front; a slice that is too short is refused by 25, and a refusal changes nothing.
+#![tactic(auto)]
+
 ghost use Rattle.std.specs.Prelude.{◌≡◌, cond, ◌≤◌, length};
 ghost use Rattle.time.specs.Answers.{numbers, read_says, written_says};
 ghost use Rattle.lent.specs.Layout.{laid, Relays};
@@ -8,7 +10,7 @@ ghost use Rattle.time_records.specs.TimeRecords.{time_in, record_of, time_by};
 use time::{MysqlTime, TimeRead, TimeType, TimeTypeOf, TimeWritten};
 
 // A date or time by its numbers, where they are nine and the type is one of the four.
-#[derive(Drop)]
+#[derive(Clone, Copy)]
 pub enum TimeRecord {
     Time(MysqlTime),
     Nothing,

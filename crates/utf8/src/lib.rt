@@ -1,5 +1,7 @@
 // Whether bytes are UTF-8 by RFC 3629, and where they break. ASCII is passed in words, and characters of two bytes at the front in blocks; of any
 // other character it is counted how many of its bytes fit.
+#![tactic(auto)]
+
 ghost use Rattle.std.specs.Prelude.{◌≡◌, ◌+◌, ◌≤◌, ◌<◌, length, get_or};
 ghost use Rattle.rfc3629.specs.Machine.{least, most};
 ghost use Rattle.utf8.specs.Answer.{Tells, checked};
@@ -10,14 +12,14 @@ use pairs::{is_tail, pairs_end};
 
 // The answer: all of it is UTF-8, or the place where it breaks. That is the first byte that can neither begin nor continue a character there;
 // of a character that is cut at the end, the end.
-#[derive(Drop)]
+#[derive(Clone, Copy)]
 pub enum Utf8Check {
     Valid,
     Bad(usize),
 }
 
 // From one place on: the next place where a character begins, or the place of the break.
-#[derive(Drop)]
+#[derive(Clone, Copy)]
 enum Step {
     Next(usize),
     Stop(usize),

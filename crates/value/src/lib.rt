@@ -1,4 +1,6 @@
 // One value of a binary JSON document: a scalar, or a container's view.
+#![tactic(auto)]
+
 mod asked;
 
 use codes::JsonbType;
@@ -6,7 +8,7 @@ use columns::ColumnType;
 use layout::Kind;
 
 // A container: its header's first byte, its size, its count and its kind.
-#[derive(Drop)]
+#[derive(Clone, Copy)]
 pub struct View {
     pub start: u32,
     pub size: u32,
@@ -15,14 +17,14 @@ pub struct View {
 }
 
 // Bytes of the document.
-#[derive(Drop)]
+#[derive(Clone, Copy)]
 pub struct Span {
     pub start: u32,
     pub len: u32,
 }
 
 // A number: signed, unsigned, a double, or the bits of a double that is no number.
-#[derive(Drop)]
+#[derive(Clone, Copy)]
 pub enum Number {
     Int(i64),
     Uint(u64),
@@ -30,7 +32,7 @@ pub enum Number {
     Nan(u64),
 }
 
-#[derive(Drop)]
+#[derive(Clone, Copy)]
 pub enum Scalar {
     Null,
     Boolean(bool),
@@ -40,21 +42,21 @@ pub enum Scalar {
 }
 
 // A scalar with its type, or a container.
-#[derive(Drop)]
+#[derive(Clone, Copy)]
 pub enum Value {
     Scalar(JsonbType, Scalar),
     Container(View),
 }
 
 // The count of a container, nothing for a scalar.
-#[derive(Drop)]
+#[derive(Clone, Copy)]
 pub enum CountOf {
     Count(u32),
     Nothing,
 }
 
 // The column type of an opaque value, nothing for others.
-#[derive(Drop)]
+#[derive(Clone, Copy)]
 pub enum FieldOf {
     Known(ColumnType),
     Nothing,

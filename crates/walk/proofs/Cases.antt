@@ -37,7 +37,7 @@ use Rattle.events.specs.declared.Event.{Event}
 use Rattle.events.specs.Listing.{end, event}
 use Rattle.root_event.specs.Root.{first_byte, text_node, value_node, read_node, root_node}
 use Rattle.paths.specs.Judged.{Judged, Stand, good, spot, text_then, value_judged, key_judged, judged, node, childless}
-use Rattle.events.specs.Lay.{Laid, laid, lay, put, room}
+use Rattle.events.specs.Lay.{Laid, laid, lay, put}
 use Rattle.events.proofs.Room.{room_for, room_small}
 use Rattle.sight.specs.declared.Sight.{Sight}
 use Rattle.sight.specs.Sights.{sight_of, sight_at}

@@ -1,4 +1,6 @@
 // The walk: every path of a document, in order, as events in a lent list.
+#![tactic(auto)]
+
 ghost use Rattle.std.specs.Prelude.{◌≡◌, true, false, ◌+◌, ◌*◌, ◌-◌, ◌<◌, ◌≤◌, length, take, drop};
 ghost use Rattle.raw.specs.Numbers.{value as value_of};
 ghost use Rattle.layout.specs.Layout.{offset_size, key_entry, offset_at};
@@ -24,7 +26,7 @@ use sight::Sight;
 use value::{Span, View};
 
 // What a value leads to: the elements of an array, the members of an object, or nothing.
-#[derive(Drop)]
+#[derive(Clone, Copy)]
 enum Leads {
     Array(View),
     Object(View),
@@ -32,7 +34,7 @@ enum Leads {
 }
 
 // What the listing of one entry came to, and what its value leads to where it was listed.
-#[derive(Drop)]
+#[derive(Clone, Copy)]
 struct Child {
     own: Walked,
     leads: Leads,

@@ -13,7 +13,7 @@ use lib.Seq.{append_snoc, get_or-append-add}
 use Rattle.events.specs.declared.Event.{Event}
 use Rattle.events.specs.Events.{event_of, numbers, wide}
 use Rattle.paths.specs.Judged.{Stand, spot}
-use Rattle.paths.specs.Paths.{root_stand, Below, here, down, Before, prefix, inside, Item, item, tree, paths, last_of, above, index_of, parent_in}
+use Rattle.paths.specs.Paths.{root_stand, child, view_in, Below, here, down, Before, prefix, inside, Item, item, tree, paths, last_of, above, index_of, parent_in}
 use Rattle.paths.proofs.Scan.{root-index}
 use Rattle.paths.proofs.Index.{Past, past-none, past_one, index_at, snoc_of}
 use Rattle.walk_laws.specs.Promise.{Ascending, key_in, value_in, event_at, events_in, depth_in, position_in, climb, climbs, path_at, Climbs}
@@ -38,6 +38,7 @@ at (x ∷ xs) (suc k) h =
 
 -- an item that is among some
 among : (y : Item) {xs : List Item} → Memᴰ y xs → (bs : List Item) × ((cs : List Item) × (xs ≡ bs ++ y ∷ cs))
+among y {xs = []} m = elim m [ ]
 among y {xs = x ∷ xs} (mathlib.Core.List.Memᴰ.head e) = ([], (xs, ap (λ (z : Item). z ∷ xs) (sym e)))
 among y {xs = x ∷ xs} (mathlib.Core.List.Memᴰ.tail m) = let (bs, (cs, e)) = among y m in (x ∷ bs, (cs, ap (λ (ys : List Item). x ∷ ys) e))
 
@@ -49,7 +50,8 @@ path-there (b ∷ bs) x cs = path-there bs x cs
 -- ---- the container's path leads somewhere, and comes before
 leads-up : {d : List ℕ} {s t : Stand} (π : List ℕ) (i : ℕ) → Below d s (π ++ i ∷ []) t → (u : Stand) × Below d s π u
 leads-up {s = s} [] i b = (s, here)
-leads-up (j ∷ π) i (down h b) = let (u, c) = leads-up π i b in (u, down h c)
+leads-up {d = d} {s = s} {t = t} (j ∷ π) i (down h b) =
+    let (u, c) = leads-up {d = d} {s = child d (view_in s.value) j} {t = t} π i b in (u, down h c)
 
 before-snoc : (π : List ℕ) (i : ℕ) → Before π (π ++ i ∷ [])
 before-snoc [] i = prefix

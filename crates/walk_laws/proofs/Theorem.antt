@@ -13,7 +13,7 @@ use Rattle.events.specs.Events.{wide}
 use Rattle.paths.specs.Judged.{Stand}
 use Rattle.events.specs.Listing.{Listing as Laying, end, fault}
 use Rattle.events.specs.Lay.{room}
-use Rattle.paths.specs.Paths.{Below, here, down, Item, item, paths}
+use Rattle.paths.specs.Paths.{child, view_in, Below, here, down, Item, item, paths}
 use Rattle.paths.specs.Shown.{flat, over, shown, Walks}
 use Rattle.paths.proofs.Laid.{walked, walked-told, told_same}
 use Rattle.walk_laws.specs.Promise.{Leads, AllRead, Everything, UpTo101, event_at, events_in, names_after, written, Climbs, Good, Halt}
@@ -40,8 +40,8 @@ record Cut (d : List ℕ) (s : Stand) (k : ℕ) : Type 0 where
 begins : {d : List ℕ} {s t : Stand} {π : List ℕ} (k : ℕ) → Below d s π t → k ≤ length π → Cut d s k
 begins {s = s} zero b h = record { path = []; stand = s; leads = here; long = refl }
 begins (suc k) here h = absurd (omega arith)
-begins (suc k) (down {i = i} a b) h =
-    let r = begins k b (omega arith) in
+begins {d = d} {s = s} {t = t} (suc k) (down {i = i} {π = π} a b) h =
+    let r = begins {d = d} {s = child d (view_in s.value) i} {t = t} {π = π} k b (omega arith) in
     record { path = i ∷ r.path; stand = r.stand; leads = down a r.leads; long = ap suc r.long }
 
 -- ---- all paths are read exactly where all items are good

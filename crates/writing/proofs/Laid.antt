@@ -11,7 +11,7 @@ use lib.Seq.{set_split, take-append-le, take-take, drop_at, take_at, drop-drop, 
 use Rattle.groups.specs.Numbers.{digits}
 use Rattle.groups.specs.Course.{run}
 use Rattle.writing.specs.Course.{laid_at}
-use Rattle.groups.proofs.Sides.{length_run}
+use Rattle.groups.proofs.SidesLaws.{length_run}
 
 pub laid_none : (out : List ℕ) (at : ℕ) → laid_at out at 0 [] ≡ out
 unfolding laid_at

@@ -19,7 +19,7 @@ use Rattle.groups.proofs.Marks.{flip-front}
 use Rattle.groups.proofs.Store.{length_to}
 use Rattle.writing.proofs.Laid.{three}
 use Rattle.writing.proofs.Shade.{digits-shade, run-shade, shaded-append}
-use Rattle.groups.proofs.Sides.{length_run, to-sides}
+use Rattle.groups.proofs.SidesLaws.{length_run, to-sides}
 use Rattle.groups.proofs.Sizes.{width-le, packed-sides}
 
 -- ---- the places and the room that the three parts have
@@ -56,7 +56,7 @@ module _ (i f : ℕ) (gs out : List ℕ) (h : i + f ≤ 65) where
       let b : run 256 4 (λ k. shade v (get_or gs k 0)) (lead_places i) n ≡ shaded v B = run-shade v (λ k. get_or gs k 0) 9 u (lead_places i) n (omega arith) in
       let c : digits 256 (width s) (shade v y) ≡ shaded v C = digits-shade v (width s) y (width-le s) (le_trans (div-le_self (get_or gs (lead_places i + n) 0) (10 ^ (9 - s))) (u (lead_places i + n) (omega arith))) in
       let e : shaded v (digits_to Plain i f gs 9) ≡ (shaded v A ++ shaded v B) ++ shaded v C = ap (shaded v) (to-sides Plain i f gs h) ∙ shaded-append v (A ++ B) C ∙ ap (λ (x : List ℕ). x ++ shaded v C) (shaded-append v A B) in
-      three out _ _ _ w (4 * n) (width s) (omega arith) (length_digits 256 w _) (length_run 256 4 _ (lead_places i) n) ∙ rw (a, b, c, e, z)
+      three out _ _ _ w (4 * n) (width s) (omega arith) (length_digits 256 w _) (length_run 256 4 (λ k. shade v (get_or gs k 0)) (lead_places i) n) ∙ rw (a, b, c, e, z)
 
 -- ---- the bytes that show the digits
 inverted-to : (i f : ℕ) (gs : List ℕ) (k : ℕ) → digits_to Inverted i f gs k ≡ digits_to Plain i f gs k

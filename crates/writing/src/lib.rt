@@ -1,4 +1,6 @@
 // The packed form of a decimal, written from its groups.
+#![tactic(auto)]
+
 ghost use Rattle.std.specs.Prelude.{◌≡◌, true, ◌++◌, ◌+◌, ◌-◌, ◌*◌, ◌/◌, ◌^◌, ◌<◌, ◌≤◌, length, get_or, drop};
 ghost use Rattle.groups.specs.Numbers.{digits};
 ghost use Rattle.groups.specs.Layout.{size, Plain};

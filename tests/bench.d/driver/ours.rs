@@ -1,4 +1,4 @@
-//! Our functions, from the archive that `rt staticlib relay` builds, as include/bratthelm.h declares them. Only what is measured here.
+//! Our functions, from the archive that `./archive` builds, as include/bratthelm.h declares them. Only what is measured here.
 
 #[link(name = "relay", kind = "static")]
 unsafe extern "C" {

@@ -7,25 +7,25 @@ use borrow.Author.Rules.{rules}
 use Rattle.ascii.proofs.front8.Statement.{statement}
 use Rattle.ascii.proofs.front8.Tie as tie
 
-returns : tie.Need-returns
-returns c = long 8 _ c.if1.true
+returns : tie.Need-returns-then-n-ge8
+returns c = long 8 _ c.if-n-ge8.true
 
 ascii4-requires : tie.Need-ascii4-requires
 ascii4-requires c κs = search rules
 
-ascii4-requires-2 : tie.Need-ascii4-requires-2
+ascii4-requires-2 : tie.Need-ascii4-requires-then-ascii4
 ascii4-requires-2 c κs = search rules
 
-returns-2 : tie.Need-returns-2
-returns-2 c = short-all 8 4 _ (omega arith) (omega arith) (omega arith) (all 4 _ _ c.before.before.before.ascii4.ensures c.before.before.if3.true) (all 4 _ _ c.before.ascii42.ensures c.if4.true)
+returns-2 : tie.Need-returns-then-ascii4-2
+returns-2 c = short-all 8 4 _ (omega arith) (omega arith) (omega arith) (all 4 _ _ c.before.before.before.ascii4.ensures c.before.before.if-ascii4.true) (all 4 _ _ c.before.ascii4-then-ascii4.ensures c.if-ascii4-2.true)
 
-bytes-end-requires : tie.Need-bytes-end-requires
+bytes-end-requires : tie.Need-bytes_end-requires
 bytes-end-requires c κs = search rules
 
-returns-3 : tie.Need-returns-3
-returns-3 c = c.bytes-end.ensures ∙ short 8 _ (omega arith)
+returns-3 : tie.Need-returns
+returns-3 c = c.bytes_end.ensures ∙ short 8 _ (omega arith)
 
-pub front8-spec : {M : Type 1} → statement M
-front8-spec =
+pub front8_spec : {M : Type 1} → statement M
+front8_spec =
     tie.close
     (tie.spec returns ascii4-requires ascii4-requires-2 returns-2 bytes-end-requires returns-3)

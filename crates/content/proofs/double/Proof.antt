@@ -6,17 +6,17 @@ use borrow.Author.Rules.{rules}
 use Rattle.content.proofs.double.Statement.{statement}
 use Rattle.content.proofs.double.Tie as tie
 
-is-nan-requires : tie.Need-is-nan-requires
+is-nan-requires : tie.Need-is_nan-requires
 is-nan-requires c κs = search rules
 
-returns : tie.Need-returns
-returns c = is_nan _ (sym c.before.is_nan.ensures ∙ c.if1.true)
+returns : tie.Need-returns-then-is_nan
+returns c = is_nan _ (sym c.is_nan.ensures ∙ c.if-is_nan.true)
 
-float-from-bits-t3 : tie.Need-float-from-bits-t3
-float-from-bits-t3 c = can-build _ (sym c.before.is_nan.ensures ∙ c.if1.false)
+float-from-bits-t3 : tie.Need-float_from_bits-result
+float-from-bits-t3 c = can-build _ (sym c.is_nan.ensures ∙ c.if-is_nan.false)
 
-returns-2 : tie.Need-returns-2
-returns-2 c = no_nan _ (sym c.before.is_nan.ensures ∙ c.if1.false)
+returns-2 : tie.Need-returns
+returns-2 c = no_nan _ (sym c.is_nan.ensures ∙ c.if-is_nan.false)
 
-pub double-spec : {M : Type 1} → statement M
-double-spec = tie.close (tie.spec is-nan-requires returns float-from-bits-t3 returns-2)
+pub double_spec : {M : Type 1} → statement M
+double_spec = tie.close (tie.spec is-nan-requires returns float-from-bits-t3 returns-2)

@@ -8,24 +8,24 @@ use borrow.Author.Rules.{rules}
 use Rattle.content.proofs.literal_scalar.Statement.{statement}
 use Rattle.content.proofs.literal_scalar.Tie as tie
 
-enum_told : tie.Need-enum-told
+enum_told : tie.Need-enum_told-1
 enum_told c = search rules
 
-enum-told-2 : tie.Need-enum-told-2
+enum-told-2 : tie.Need-enum_told-in-True
 enum-told-2 c = search rules
 
-enum-told-3 : tie.Need-enum-told-3
+enum-told-3 : tie.Need-enum_told-in-False
 enum-told-3 c = search rules
 
-returns : tie.Need-returns
-returns c = ap (λ (t : LiteralType). literal_of (Known t)) (sym c.enum_told.given.1)
+returns : tie.Need-returns-in-Null
+returns c = ap (λ (t : LiteralType). literal_of (Known t)) (sym c.in-Null.is)
 
-returns-2 : tie.Need-returns-2
-returns-2 c = ap (λ (t : LiteralType). literal_of (Known t)) (sym c.enum-told2.given.1)
+returns-2 : tie.Need-returns-in-True
+returns-2 c = ap (λ (t : LiteralType). literal_of (Known t)) (sym c.in-True.is)
 
-returns-3 : tie.Need-returns-3
-returns-3 c = ap (λ (t : LiteralType). literal_of (Known t)) (sym c.enum-told3.given.1)
+returns-3 : tie.Need-returns-in-False
+returns-3 c = ap (λ (t : LiteralType). literal_of (Known t)) (sym c.in-False.is)
 
-pub literal-scalar-spec : {M : Type 1} → statement M
-literal-scalar-spec =
+pub literal_scalar_spec : {M : Type 1} → statement M
+literal_scalar_spec =
     tie.close (tie.spec enum_told enum-told-2 enum-told-3 returns returns-2 returns-3)

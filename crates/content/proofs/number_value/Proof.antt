@@ -8,19 +8,19 @@ use borrow.Author.Rules.{rules}
 use Rattle.content.proofs.number_value.Statement.{statement}
 use Rattle.content.proofs.number_value.Tie as tie
 
-sub-if1 : tie.Need-overflow-sub-if1
+sub-if1 : tie.Need-overflow_sub-end
 sub-if1 c = search rules
 
-returns : tie.Need-returns
+returns : tie.Need-returns-then-end-at
 unfolding number_at
-returns c = yes _ (lt-ltb _ _ c.if1.true) refl
+returns c = yes _ (lt-ltb _ _ c.if-end-at.true) refl
 
-scalar-value-requires : tie.Need-scalar-value-requires
+scalar-value-requires : tie.Need-scalar_value-requires
 scalar-value-requires c κs = search rules
 
-returns-2 : tie.Need-returns-2
+returns-2 : tie.Need-returns
 unfolding number_at
-returns-2 c = no _ (le-ltb _ _ c.before.if1.false) c.scalar-value.ensures
+returns-2 c = no _ (le-ltb _ _ c.if-end-at.false) c.scalar_value.ensures
 
-pub number-value-spec : {M : Type 1} → statement M
-number-value-spec = tie.close (tie.spec sub-if1 returns scalar-value-requires returns-2)
+pub number_value_spec : {M : Type 1} → statement M
+number_value_spec = tie.close (tie.spec sub-if1 returns scalar-value-requires returns-2)

@@ -6,21 +6,21 @@ use borrow.Author.Rules.{rules}
 use Rattle.content.proofs.opaque_value.Statement.{statement}
 use Rattle.content.proofs.opaque_value.Tie as tie
 
-enum-known-p : tie.Need-enum-known-p
+enum-known-p : tie.Need-enum_known-p
 enum-known-p c = search rules
 
-scalar-value-requires : tie.Need-scalar-value-requires
+scalar-value-requires : tie.Need-scalar_value-requires
 scalar-value-requires c κs = search rules
 
-enum-known-p-2 : tie.Need-enum-known-p-2
+enum-known-p-2 : tie.Need-enum_known-p-in-Refused-1
 enum-known-p-2 c = search rules
 
-returns : tie.Need-returns
-returns c = c.scalar-value.ensures ∙ ap (part_of opaque_type (opaque_scalar c.before.before.before.before.args.t)) (sym c.before.before.p.given.1)
+returns : tie.Need-returns-in-Bytes
+returns c = c.scalar_value.ensures ∙ ap (part_of opaque_type (opaque_scalar c.args.t)) (sym c.in-Bytes.is)
 
-returns-2 : tie.Need-returns-2
-returns-2 c = ap (part_of opaque_type (opaque_scalar c.before.before.before.args.t)) (sym c.before.p2.given.1)
+returns-2 : tie.Need-returns-in-Refused
+returns-2 c = ap (part_of opaque_type (opaque_scalar c.args.t)) (sym c.in-Refused.is)
 
-pub opaque-value-spec : {M : Type 1} → statement M
-opaque-value-spec =
+pub opaque_value_spec : {M : Type 1} → statement M
+opaque_value_spec =
     tie.close (tie.spec enum-known-p scalar-value-requires enum-known-p-2 returns returns-2)

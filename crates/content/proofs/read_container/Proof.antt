@@ -8,25 +8,25 @@ use borrow.Author.Rules.{rules}
 use Rattle.content.proofs.read_container.Statement.{statement}
 use Rattle.content.proofs.read_container.Tie as tie
 
-header-at-requires : tie.Need-header-at-requires
+header-at-requires : tie.Need-header_at-requires
 header-at-requires c κs = search rules
 
-enum-known-count : tie.Need-enum-known-count
+enum-known-count : tie.Need-enum_known-count
 enum-known-count c = search rules
 
-cast-t10 : tie.Need-overflow-cast-t10
+cast-t10 : tie.Need-overflow_cast-result
 cast-t10 c = search rules
 
-enum-known-n : tie.Need-enum-known-n
+enum-known-n : tie.Need-enum_known-n
 enum-known-n c = search rules
 
-returns : tie.Need-returns
-returns c = ap (viewed _ _) (sym c.before.count.given.1 ∙ c.before.before.before.header_at.ensures ∙ header-within _ _ _ _ (search rules))
+returns : tie.Need-returns-in-Whole
+returns c = ap (viewed _ _) (sym c.in-Whole.is ∙ c.header_at.ensures ∙ header-within _ _ _ _ (search rules))
 
-returns-2 : tie.Need-returns-2
-returns-2 c = ap (viewed _ _) (sym c.before.n.given.1 ∙ c.before.before.before.header_at.ensures ∙ header-within _ _ _ _ (search rules))
+returns-2 : tie.Need-returns-in-Refused
+returns-2 c = ap (viewed _ _) (sym c.in-Refused.is ∙ c.header_at.ensures ∙ header-within _ _ _ _ (search rules))
 
-pub read-container-spec : {M : Type 1} → statement M
-read-container-spec =
+pub read_container_spec : {M : Type 1} → statement M
+read_container_spec =
     tie.close
     (tie.spec header-at-requires enum-known-count cast-t10 enum-known-n returns returns-2)

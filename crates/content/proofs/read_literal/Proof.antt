@@ -8,23 +8,23 @@ use borrow.Author.Rules.{rules}
 use Rattle.content.proofs.read_literal.Statement.{statement}
 use Rattle.content.proofs.read_literal.Tie as tie
 
-returns : tie.Need-returns
+returns : tie.Need-returns-then-end-at
 unfolding literal_at
-returns c = yes _ (le-leb _ _ c.if1.true) refl
+returns c = yes _ (le-leb _ _ c.if-end-at.true) refl
 
-shared-slice-read-of : tie.Need-shared-slice-read-of
+shared-slice-read-of : tie.Need-bounds-doc-at
 shared-slice-read-of c = search rules
 
 of-requires : tie.Need-of-requires
 of-requires c κs = search rules
 
-literal-value-requires : tie.Need-literal-value-requires
+literal-value-requires : tie.Need-literal_value-requires
 literal-value-requires c κs = search rules
 
-returns-2 : tie.Need-returns-2
+returns-2 : tie.Need-returns
 unfolding literal_at
-returns-2 c = no _ (lt-leb _ _ c.before.before.before.if1.false) (c.literal-value.ensures ∙ ap literal_of c.before.of.ensures)
+returns-2 c = no _ (lt-leb _ _ c.if-end-at.false) (c.literal_value.ensures ∙ ap literal_of c.of.ensures)
 
-pub read-literal-spec : {M : Type 1} → statement M
-read-literal-spec =
+pub read_literal_spec : {M : Type 1} → statement M
+read_literal_spec =
     tie.close (tie.spec returns shared-slice-read-of of-requires literal-value-requires returns-2)

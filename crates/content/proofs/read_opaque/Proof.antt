@@ -9,41 +9,41 @@ use borrow.Author.Rules.{rules}
 use Rattle.content.proofs.read_opaque.Statement.{statement}
 use Rattle.content.proofs.read_opaque.Tie as tie
 
-returns : tie.Need-returns
+returns : tie.Need-returns-then-end-at
 unfolding opaque_at
-returns c = yes _ (le-leb _ _ c.if1.true) refl
+returns c = yes _ (le-leb _ _ c.if-end-at.true) refl
 
-shared-slice-read-of : tie.Need-shared-slice-read-of
+shared-slice-read-of : tie.Need-bounds-doc-at
 shared-slice-read-of c = search rules
 
 of-requires : tie.Need-of-requires
 of-requires c κs = search rules
 
-enum-known-t : tie.Need-enum-known-t
+enum-known-t : tie.Need-enum_known-t
 enum-known-t c = search rules
 
-add-read-part : tie.Need-overflow-add-read-part
+add-read-part : tie.Need-overflow_add-at
 add-read-part c = search rules
 
-read-part-requires : tie.Need-read-part-requires
+read-part-requires : tie.Need-read_part-requires
 read-part-requires c κs = search rules
 
-opaque-value-requires : tie.Need-opaque-value-requires
+opaque-value-requires : tie.Need-opaque_value-requires
 opaque-value-requires c κs = search rules
 
-enum-known-n : tie.Need-enum-known-n
+enum-known-n : tie.Need-enum_known-n
 enum-known-n c = search rules
 
-returns-2 : tie.Need-returns-2
+returns-2 : tie.Need-returns-in-Known
 returns-2 c =
-    opaque-known _ _ _ c.before.before.before.before.before.before.before.if1.false c.before.before.before.before.before.of.ensures
-    c.before.before.before.t.given.1 c.before.read-part.ensures c.opaque-value.ensures
+    opaque-known _ _ _ c.if-end-at.false c.of.ensures
+    c.in-Known.is c.read_part.ensures c.opaque_value.ensures
 
-returns-3 : tie.Need-returns-3
-returns-3 c = opaque-refused _ _ _ c.before.before.before.before.before.if1.false c.before.before.before.of.ensures c.before.n.given.1
+returns-3 : tie.Need-returns-in-Refused
+returns-3 c = opaque-refused _ _ _ c.if-end-at.false c.of.ensures c.in-Refused.is
 
-pub read-opaque-spec : {M : Type 1} → statement M
-read-opaque-spec =
+pub read_opaque_spec : {M : Type 1} → statement M
+read_opaque_spec =
     tie.close
     (tie.spec
     returns

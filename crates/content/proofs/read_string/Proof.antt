@@ -8,29 +8,29 @@ use borrow.Author.Rules.{rules}
 use Rattle.content.proofs.read_string.Statement.{statement}
 use Rattle.content.proofs.read_string.Tie as tie
 
-read-part-requires : tie.Need-read-part-requires
+read-part-requires : tie.Need-read_part-requires
 read-part-requires c κs = search rules
 
-enum-known-s : tie.Need-enum-known-s
+enum-known-s : tie.Need-enum_known-s
 enum-known-s c = search rules
 
-scalar-value-requires : tie.Need-scalar-value-requires
+scalar-value-requires : tie.Need-scalar_value-requires
 scalar-value-requires c κs = search rules
 
-enum-known-n : tie.Need-enum-known-n
+enum-known-n : tie.Need-enum_known-n
 enum-known-n c = search rules
 
-returns : tie.Need-returns
+returns : tie.Need-returns-in-Bytes
 unfolding string_at
 returns c =
-    c.scalar-value.ensures
-    ∙ ap (part_of type.String scalar.String) (sym c.before.before.s.given.1 ∙ c.before.before.before.before.read-part.ensures)
+    c.scalar_value.ensures
+    ∙ ap (part_of type.String scalar.String) (sym c.in-Bytes.is ∙ c.read_part.ensures)
 
-returns-2 : tie.Need-returns-2
+returns-2 : tie.Need-returns-in-Refused
 unfolding string_at
-returns-2 c = ap (part_of type.String scalar.String) (sym c.before.n.given.1 ∙ c.before.before.before.read-part.ensures)
+returns-2 c = ap (part_of type.String scalar.String) (sym c.in-Refused.is ∙ c.read_part.ensures)
 
-pub read-string-spec : {M : Type 1} → statement M
-read-string-spec =
+pub read_string_spec : {M : Type 1} → statement M
+read_string_spec =
     tie.close
     (tie.spec read-part-requires enum-known-s scalar-value-requires enum-known-n returns returns-2)

@@ -5,48 +5,48 @@ use borrow.Author.Rules.{rules}
 use Rattle.entry.proofs.read_pointed.Statement.{statement}
 use Rattle.entry.proofs.read_pointed.Tie as tie
 
-cast-start : tie.Need-overflow-cast-start
+cast-start : tie.Need-overflow_cast-start
 cast-start c = search rules
 
-cast-end : tie.Need-overflow-cast-end
+cast-end : tie.Need-overflow_cast-end
 cast-end c = search rules
 
-add-end : tie.Need-overflow-add-end
+add-end : tie.Need-overflow_add-end
 add-end c = search rules
 
-offset-at-requires : tie.Need-offset-at-requires
+offset-at-requires : tie.Need-offset_at-requires
 offset-at-requires c κs = search rules
 
-cast-at : tie.Need-overflow-cast-at
+cast-at : tie.Need-overflow_cast-at
 cast-at c = search rules
 
-add_at : tie.Need-overflow-add-at
+add_at : tie.Need-overflow_add-at
 add_at c = search rules
 
-offset-size-requires : tie.Need-offset-size-requires
+offset-size-requires : tie.Need-offset_size-requires
 offset-size-requires c κs = search rules
 
-add-if1 : tie.Need-overflow-add-if1
+add-if1 : tie.Need-overflow_add-body
 add-if1 c = search rules
 
-returns : tie.Need-returns
-returns c = pointed-low _ _ _ _ c.before.before.offset_at.ensures c.before.offset-size.ensures.0 c.if1.true
+returns : tie.Need-returns-then-at-body
+returns c = pointed-low _ _ _ _ c.offset_at.ensures c.offset_size.ensures.0 c.if-at-body.true
 
-returns-2 : tie.Need-returns-2
+returns-2 : tie.Need-returns-then-end-at
 returns-2 c =
-    pointed-high _ _ _ _ c.before.before.before.offset_at.ensures c.before.before.offset-size.ensures.0
-    c.before.if1.false c.if2.true
+    pointed-high _ _ _ _ c.offset_at.ensures c.offset_size.ensures.0
+    c.if-at-body.false c.if-end-at.true
 
-value-at-requires : tie.Need-value-at-requires
+value-at-requires : tie.Need-value_at-requires
 value-at-requires c κs = search rules
 
-returns-3 : tie.Need-returns-3
+returns-3 : tie.Need-returns
 returns-3 c =
-    pointed-read _ _ _ _ c.before.before.before.before.offset_at.ensures c.before.before.before.offset-size.ensures.0
-    c.before.before.if1.false c.before.if2.false c.value-at.ensures
+    pointed-read _ _ _ _ c.offset_at.ensures c.offset_size.ensures.0
+    c.if-at-body.false c.if-end-at.false c.value_at.ensures
 
-pub read-pointed-spec : {M : Type 1} → statement M
-read-pointed-spec =
+pub read_pointed_spec : {M : Type 1} → statement M
+read_pointed_spec =
     tie.close
     (tie.spec
     cast-start

@@ -6,7 +6,7 @@ use borrow.Author.Rules.{rules}
 use Rattle.events.proofs.code_of.Statement.{statement}
 use Rattle.events.proofs.code_of.Tie as tie
 
-enum-known-x : tie.Need-enum-known-x
+enum-known-x : tie.Need-enum_known-x
 enum-known-x c = search rules
 
 code-requires : tie.Need-code-requires
@@ -15,20 +15,20 @@ code-requires c κs = search rules
 widen-requires : tie.Need-widen-requires
 widen-requires c κs = search rules
 
-enum-known-x-2 : tie.Need-enum-known-x-2
+enum-known-x-2 : tie.Need-enum_known-x-in-Container-1
 enum-known-x-2 c = search rules
 
-kind-code-requires : tie.Need-kind-code-requires
+kind-code-requires : tie.Need-kind_code-requires
 kind-code-requires c κs = search rules
 
-returns : tie.Need-returns
-returns c = c.widen.ensures ∙ c.before.code.ensures ∙ ap code_of (sym c.before.before.before.x.given.1)
+returns : tie.Need-returns-in-Scalar
+returns c = c.widen.ensures ∙ c.code.ensures ∙ ap code_of (sym c.in-Scalar.is)
 
-returns-2 : tie.Need-returns-2
-returns-2 c = c.kind-code.ensures ∙ ap code_of (sym c.before.before.x2.given.1)
+returns-2 : tie.Need-returns-in-Container
+returns-2 c = c.kind_code.ensures ∙ ap code_of (sym c.in-Container.is)
 
-pub code-of-spec : {M : Type 1} → statement M
-code-of-spec =
+pub code_of_spec : {M : Type 1} → statement M
+code_of_spec =
     tie.close
     (tie.spec
     enum-known-x

@@ -7,25 +7,25 @@ use borrow.Author.Rules.{rules}
 use Rattle.events.proofs.part_of.Statement.{statement}
 use Rattle.events.proofs.part_of.Tie as tie
 
-enum-known-x : tie.Need-enum-known-x
+enum-known-x : tie.Need-enum_known-x
 enum-known-x c = search rules
 
-scalar-part-requires : tie.Need-scalar-part-requires
+scalar-part-requires : tie.Need-scalar_part-requires
 scalar-part-requires c κs = search rules
 
-enum-known-x-2 : tie.Need-enum-known-x-2
+enum-known-x-2 : tie.Need-enum_known-x-in-Container-1
 enum-known-x-2 c = search rules
 
-returns : tie.Need-returns
+returns : tie.Need-returns-in-Scalar
 returns c =
-    let a = c.before.before.before.before.args in
-    c.scalar-part.ensures ∙ ap (λ (x : Value). part_of x a.from) (sym c.before.before.x.given.1)
+    let a = c.args in
+    c.scalar_part.ensures ∙ ap (λ (x : Value). part_of x a.from) (sym c.in-Scalar.is)
 
-returns-2 : tie.Need-returns-2
+returns-2 : tie.Need-returns-in-Container
 returns-2 c =
-    let a = c.before.before.before.args in
-    ap (λ (x : Value). part_of x a.from) (sym c.before.x2.given.1)
+    let a = c.args in
+    ap (λ (x : Value). part_of x a.from) (sym c.in-Container.is)
 
-pub part-of-spec : {M : Type 1} → statement M
-part-of-spec =
+pub part_of_spec : {M : Type 1} → statement M
+part_of_spec =
     tie.close (tie.spec enum-known-x scalar-part-requires enum-known-x-2 returns returns-2)

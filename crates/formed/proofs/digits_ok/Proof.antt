@@ -10,28 +10,28 @@ use borrow.Author.Rules.{rules}
 use Rattle.formed.proofs.digits_ok.Statement.{statement}
 use Rattle.formed.proofs.digits_ok.Tie as tie
 
-returns : tie.Need-returns
+returns : tie.Need-returns-then-intg-gt65
 returns c = sym (not-ok _ _ (λ h. omega arith))
 
-returns-2 : tie.Need-returns-2
+returns-2 : tie.Need-returns-then-frac-gt30
 returns-2 c = sym (not-ok _ _ (λ h. omega arith))
 
-add-if3 : tie.Need-overflow-add-if3
+add-if3 : tie.Need-overflow_add-intg
 add-if3 c = search rules
 
-returns-3 : tie.Need-returns-3
+returns-3 : tie.Need-returns-then-intg-frac-eq0
 returns-3 c = sym (not-ok _ _ (λ h. omega arith))
 
-add-result : tie.Need-overflow-add-result
+add-result : tie.Need-overflow_add-result
 add-result c = search rules
 
-returns-4 : tie.Need-returns-4
+returns-4 : tie.Need-returns
 unfolding digits_ok
 returns-4 c =
-    let a = c.before.before.before.args in
+    let a = c.args in
     let h : 1 ≤ a.intg + a.frac = omega arith in
     let k : a.frac ≤ 30 = omega arith in
     sym (simp (le-leb _ _ h, le-leb _ _ k) (both-unit _))
 
-pub digits-ok-spec : {M : Type 1} → statement M
-digits-ok-spec = tie.close (tie.spec returns returns-2 add-if3 returns-3 add-result returns-4)
+pub digits_ok_spec : {M : Type 1} → statement M
+digits_ok_spec = tie.close (tie.spec returns returns-2 add-if3 returns-3 add-result returns-4)

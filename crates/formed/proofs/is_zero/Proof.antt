@@ -14,46 +14,46 @@ use Rattle.groups.proofs.Sign.{nought-of}
 use Rattle.formed.proofs.is_zero.Statement.{statement}
 use Rattle.formed.proofs.is_zero.Tie as tie
 
-abbrev invariant-loop : tie.invariant-loop
+abbrev invariant-loop : tie.invariant-loop-k
 invariant-loop groups k₀ k = (k ≤ 9) × ((j : ℕ) → j < k → get_or groups j 0 ≡ 0)
 
-abbrev decreases-loop : tie.decreases-loop
+abbrev decreases-loop : tie.decreases-loop-k
 decreases-loop groups k₀ k = 9 - k
 
-loop-holds : tie.Need-loop-init invariant-loop decreases-loop
+loop-holds : tie.Need-loop-k-init invariant-loop decreases-loop
 loop-holds c = (search rules, below_none _)
 
-mul-if1 : tie.Need-overflow-mul-if1 invariant-loop decreases-loop
+mul-if1 : tie.Need-offset_bounds-groups-k invariant-loop decreases-loop
 mul-if1 c = omega arith
 
-element-copy-out-if1 : tie.Need-element-copy-out-if1 invariant-loop decreases-loop
+element-copy-out-if1 : tie.Need-bounds-groups-k invariant-loop decreases-loop
 element-copy-out-if1 c = omega arith
 
-returns : tie.Need-returns invariant-loop decreases-loop
+returns : tie.Need-returns-then-groups-k-gt0 invariant-loop decreases-loop
 unfolding is_nought
 returns c =
-    let gs = c.before.before.before.before.args.groups.now in
-    let k = c.before.before.before.loop.k in
+    let gs = c.args.groups.now in
+    let k = c.loop-k.k in
     sym (all-false (λ k. eqb (get_or gs k 0) 0) 9 k (search rules) (ne_eqb (get_or gs k 0) 0 (λ (e : get_or gs k 0 ≡ 0). omega arith)))
 
-add-k : tie.Need-overflow-add-k invariant-loop decreases-loop
+add-k : tie.Need-overflow_step-k invariant-loop decreases-loop
 add-k c = omega arith
 
-loop-less : tie.Need-loop-smaller invariant-loop decreases-loop
+loop-less : tie.Need-loop-k-smaller invariant-loop decreases-loop
 loop-less c = omega arith
 
-loop-again : tie.Need-loop-preserved invariant-loop decreases-loop
-loop-again c = (search rules, below_more _ c.before.before.before.loop.k c.before.before.before.loop.invariant.1 (omega arith))
+loop-again : tie.Need-loop-k-preserved invariant-loop decreases-loop
+loop-again c = (search rules, below_more _ c.loop-k.k c.loop-k.invariant.1 (omega arith))
 
-returns-2 : tie.Need-returns-2 invariant-loop decreases-loop
+returns-2 : tie.Need-returns invariant-loop decreases-loop
 returns-2 c =
-    let gs = c.before.before.args.groups.now in
-    let l = c.before.loop in
+    let gs = c.args.groups.now in
+    let l = c.loop-k in
     let e : l.k ≡ 9 = omega arith in
     sym (nought-of gs (λ j h. l.invariant.1 j (rw e h)))
 
-pub is-zero-spec : {M : Type 1} → statement M
-is-zero-spec =
+pub is_zero_spec : {M : Type 1} → statement M
+is_zero_spec =
     tie.close
     (tie.spec
     invariant-loop

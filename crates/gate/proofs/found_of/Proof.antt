@@ -6,17 +6,17 @@ use borrow.Author.Rules.{rules}
 use Rattle.gate.proofs.found_of.Statement.{statement}
 use Rattle.gate.proofs.found_of.Tie as tie
 
-enum-known-r : tie.Need-enum-known-r
+enum-known-r : tie.Need-enum_known-r
 enum-known-r c = search rules
 
-enum-known-r-2 : tie.Need-enum-known-r-2
+enum-known-r-2 : tie.Need-enum_known-r-in-Refused-1
 enum-known-r-2 c = search rules
 
-returns : tie.Need-returns
-returns c = ap read_said (sym c.before.r.given.1)
+returns : tie.Need-returns-in-Value
+returns c = ap read_said (sym c.in-Value.is)
 
-returns-2 : tie.Need-returns-2
-returns-2 c = ap read_said (sym c.before.r2.given.1)
+returns-2 : tie.Need-returns-in-Refused
+returns-2 c = ap read_said (sym c.in-Refused.is)
 
-pub found-of-spec : {M : Type 1} → statement M
-found-of-spec = tie.close (tie.spec enum-known-r enum-known-r-2 returns returns-2)
+pub found_of_spec : {M : Type 1} → statement M
+found_of_spec = tie.close (tie.spec enum-known-r enum-known-r-2 returns returns-2)

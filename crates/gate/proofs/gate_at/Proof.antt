@@ -8,40 +8,40 @@ use borrow.Author.Rules.{rules}
 use Rattle.gate.proofs.gate_at.Statement.{statement}
 use Rattle.gate.proofs.gate_at.Tie as tie
 
-returns : tie.Need-returns
+returns : tie.Need-returns-then-doc-gt16777216
 unfolding gate_of
-returns c = yes _ (lt-ltb _ _ c.if1.true) refl
+returns c = yes _ (lt-ltb _ _ c.if-doc-gt16777216.true) refl
 
-returns-2 : tie.Need-returns-2
+returns-2 : tie.Need-returns-then-not-asked
 unfolding gate_of
-returns-2 c = no _ (le-ltb _ _ c.before.if1.false) (no _ (not-true c.before.before.before.args.asked c.if2.true) refl)
+returns-2 c = no _ (le-ltb _ _ c.if-doc-gt16777216.false) (no _ (not-true c.args.asked c.if-not-asked.true-raw) refl)
 
-is-whole-requires : tie.Need-is-whole-requires
+is-whole-requires : tie.Need-is_whole-requires
 is-whole-requires c κs = search rules
 
-returns-3 : tie.Need-returns-3
+returns-3 : tie.Need-returns-then-not-is_whole
 unfolding gate_of
 returns-3 c =
-    no _ (le-ltb _ _ c.before.before.before.if1.false)
-    (yes _ (not-false c.before.before.before.before.before.args.asked c.before.before.if2.false)
-    (no _ (sym c.before.is_whole.ensures ∙ not-true c.before.is_whole.result c.if3.true) refl))
+    no _ (le-ltb _ _ c.if-doc-gt16777216.false)
+    (yes _ (not-false c.args.asked c.if-not-asked.false-raw)
+    (no _ (sym c.is_whole.ensures ∙ not-true c.is_whole.result c.if-not-is_whole.true-raw) refl))
 
-returns-4 : tie.Need-returns-4
+returns-4 : tie.Need-returns-then-v-i
 unfolding gate_of
 returns-4 c =
-    no _ (le-ltb _ _ c.before.before.before.before.before.if1.false)
-    (yes _ (not-false c.before.before.before.before.before.before.before.args.asked c.before.before.before.before.if2.false)
-    (yes _ (sym c.before.before.before.is_whole.ensures ∙ not-false c.before.before.before.is_whole.result c.before.before.if3.false)
-    (yes _ (le-leb _ _ c.if4.true) refl)))
+    no _ (le-ltb _ _ c.if-doc-gt16777216.false)
+    (yes _ (not-false c.args.asked c.if-not-asked.false-raw)
+    (yes _ (sym c.is_whole.ensures ∙ not-false c.is_whole.result c.if-not-is_whole.false-raw)
+    (yes _ (le-leb _ _ c.if-v-i.true) refl)))
 
-returns-5 : tie.Need-returns-5
+returns-5 : tie.Need-returns
 unfolding gate_of
 returns-5 c =
-    no _ (le-ltb _ _ c.before.before.before.before.before.if1.false)
-    (yes _ (not-false c.before.before.before.before.before.before.before.args.asked c.before.before.before.before.if2.false)
-    (yes _ (sym c.before.before.before.is_whole.ensures ∙ not-false c.before.before.before.is_whole.result c.before.before.if3.false)
-    (no _ (lt-leb _ _ c.if4.false) refl)))
+    no _ (le-ltb _ _ c.if-doc-gt16777216.false)
+    (yes _ (not-false c.args.asked c.if-not-asked.false-raw)
+    (yes _ (sym c.is_whole.ensures ∙ not-false c.is_whole.result c.if-not-is_whole.false-raw)
+    (no _ (lt-leb _ _ c.if-v-i.false) refl)))
 
-pub gate-at-spec : {M : Type 1} → statement M
-gate-at-spec =
+pub gate_at_spec : {M : Type 1} → statement M
+gate_at_spec =
     tie.close (tie.spec returns returns-2 is-whole-requires returns-3 returns-4 returns-5)

@@ -5,31 +5,31 @@ use borrow.Author.Rules.{rules}
 use Rattle.gate.proofs.is_whole.Statement.{statement}
 use Rattle.gate.proofs.is_whole.Tie as tie
 
-cast-header-at : tie.Need-overflow-cast-header-at
+cast-header-at : tie.Need-overflow_cast-v
 cast-header-at c = search rules
 
-header-at-requires : tie.Need-header-at-requires
+header-at-requires : tie.Need-header_at-requires
 header-at-requires c κs = search rules
 
-enum-known-count : tie.Need-enum-known-count
+enum-known-count : tie.Need-enum_known-count
 enum-known-count c = search rules
 
-enum_told : tie.Need-enum-told
+enum_told : tie.Need-enum_told-1
 enum_told c = search rules
 
-returns : tie.Need-returns
+returns : tie.Need-returns-then-count-v
 returns c =
-    whole_same _ _ c.before.before.before.before.before.before.header_at.ensures c.before.before.before.before.count.given.1
-    c.before.if1.true
+    whole_same _ _ c.header_at.ensures c.in-Whole.is
+    c.if-count-v.true
 
-returns-2 : tie.Need-returns-2
-returns-2 c = whole-other _ _ c.before.before.before.before.before.header_at.ensures c.before.before.before.count.given.1 c.if1.false
+returns-2 : tie.Need-returns-else-count-v
+returns-2 c = whole-other _ _ c.header_at.ensures c.in-Whole.is c.if-count-v.false
 
-returns-3 : tie.Need-returns-3
-returns-3 c = whole-refused _ _ c.before.before.header_at.ensures c.enum_told.given.1
+returns-3 : tie.Need-returns-in-Refused
+returns-3 c = whole-refused _ _ c.header_at.ensures c.in-Refused.is
 
-pub is-whole-spec : {M : Type 1} → statement M
-is-whole-spec =
+pub is_whole_spec : {M : Type 1} → statement M
+is_whole_spec =
     tie.close
     (tie.spec
     cast-header-at

@@ -6,17 +6,17 @@ use borrow.Author.Rules.{rules}
 use Rattle.gate.proofs.key_of.Statement.{statement}
 use Rattle.gate.proofs.key_of.Tie as tie
 
-enum-known-p : tie.Need-enum-known-p
+enum-known-p : tie.Need-enum_known-p
 enum-known-p c = search rules
 
-enum-known-p-2 : tie.Need-enum-known-p-2
+enum-known-p-2 : tie.Need-enum_known-p-in-Refused-1
 enum-known-p-2 c = search rules
 
-returns : tie.Need-returns
-returns c = ap part_said (sym c.before.p.given.1)
+returns : tie.Need-returns-in-Bytes
+returns c = ap part_said (sym c.in-Bytes.is)
 
-returns-2 : tie.Need-returns-2
-returns-2 c = ap part_said (sym c.before.p2.given.1)
+returns-2 : tie.Need-returns-in-Refused
+returns-2 c = ap part_said (sym c.in-Refused.is)
 
-pub key-of-spec : {M : Type 1} → statement M
-key-of-spec = tie.close (tie.spec enum-known-p enum-known-p-2 returns returns-2)
+pub key_of_spec : {M : Type 1} → statement M
+key_of_spec = tie.close (tie.spec enum-known-p enum-known-p-2 returns returns-2)

@@ -7,17 +7,17 @@ use borrow.Author.Rules.{rules}
 use Rattle.kept.proofs.group_or_zero.Statement.{statement}
 use Rattle.kept.proofs.group_or_zero.Tie as tie
 
-mul-result : tie.Need-overflow-mul-result
+mul-result : tie.Need-offset_bounds-groups-i
 mul-result c = search rules
 
-element-copy-out-result : tie.Need-element-copy-out-result
+element-copy-out-result : tie.Need-bounds-groups-i
 element-copy-out-result c = search rules
 
-returns : tie.Need-returns
+returns : tie.Need-returns-then-i-lt9
 returns c = search rules
 
-returns-2 : tie.Need-returns-2
-returns-2 c = sym (get_or-eq_default c.before.args.groups.now 0 (omega arith))
+returns-2 : tie.Need-returns-else-i-lt9
+returns-2 c = sym (get_or-eq_default c.args.groups.now 0 (omega arith))
 
-pub group-or-zero-spec : {M : Type 1} → statement M
-group-or-zero-spec = tie.close (tie.spec mul-result element-copy-out-result returns returns-2)
+pub group_or_zero_spec : {M : Type 1} → statement M
+group_or_zero_spec = tie.close (tie.spec mul-result element-copy-out-result returns returns-2)

@@ -9,28 +9,28 @@ use Rattle.length_field.proofs.length_at.Tie as tie
 left-requires : tie.Need-left-requires
 left-requires c κs = search rules
 
-shared-slice-read-b : tie.Need-shared-slice-read-b
+shared-slice-read-b : tie.Need-bounds-doc-at
 shared-slice-read-b c = search rules
 
-cast-t10 : tie.Need-overflow-cast-t10
+cast-t10 : tie.Need-overflow_cast-result
 cast-t10 c = search rules
 
-add-t11 : tie.Need-overflow-add-t11
+add-t11 : tie.Need-overflow_add-result
 add-t11 c = search rules
 
-returns : tie.Need-returns
+returns : tie.Need-returns-then-b-lt128
 returns c =
     let a = c.before.before.before.before.before.args in
-    one a.doc.now a.at a.end (omega arith) c.if2.true
+    one a.doc.now a.at a.end (omega arith) c.if-b-lt128.true
 
 grouped-requires : tie.Need-grouped-requires
 grouped-requires c κs = search rules
 
-returns-2 : tie.Need-returns-2
+returns-2 : tie.Need-returns
 returns-2 c = search rules
 
-pub length-at-spec : {M : Type 1} → statement M
-length-at-spec =
+pub length_at_spec : {M : Type 1} → statement M
+length_at_spec =
     tie.close
     (tie.spec
     left-requires

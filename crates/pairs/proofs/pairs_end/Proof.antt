@@ -9,50 +9,50 @@ use borrow.Author.Rules.{rules}
 use Rattle.pairs.proofs.pairs_end.Statement.{statement}
 use Rattle.pairs.proofs.pairs_end.Tie as tie
 
-abbrev invariant-loop : tie.invariant-loop
+abbrev invariant-loop : tie.invariant-loop-j
 invariant-loop s at last j₀ j = Rights s at j
 
-abbrev decreases-loop : tie.decreases-loop
+abbrev decreases-loop : tie.decreases-loop-j
 decreases-loop s at last j₀ j = last - j
 
-returns : tie.Need-returns invariant-loop decreases-loop
+returns : tie.Need-returns-then-s-lt17 invariant-loop decreases-loop
 returns c = none _ _
 
-sub-last : tie.Need-overflow-sub-last invariant-loop decreases-loop
+sub-last : tie.Need-overflow_sub-last invariant-loop decreases-loop
 sub-last c = omega arith
 
-loop-holds : tie.Need-loop-init invariant-loop decreases-loop
+loop-holds : tie.Need-loop-j-init invariant-loop decreases-loop
 loop-holds c = none _ _
 
-block-start-requires : tie.Need-block-start-requires invariant-loop decreases-loop
+block-start-requires : tie.Need-block_start-k-requires invariant-loop decreases-loop
 block-start-requires c κs = (omega arith, omega arith)
 
 block-requires : tie.Need-block-requires invariant-loop decreases-loop
 block-requires c κs = omega arith
 
-returns-2 : tie.Need-returns-2 invariant-loop decreases-loop
+returns-2 : tie.Need-returns-then-not-block invariant-loop decreases-loop
 returns-2 c = search rules
 
-add-j : tie.Need-overflow-add-j invariant-loop decreases-loop
+add-j : tie.Need-overflow_add-j invariant-loop decreases-loop
 add-j c = omega arith
 
-is-plain-requires : tie.Need-is-plain-requires invariant-loop decreases-loop
+is-plain-requires : tie.Need-is_plain-requires invariant-loop decreases-loop
 is-plain-requires c κs = omega arith
 
-returns-3 : tie.Need-returns-3 invariant-loop decreases-loop
-returns-3 c = onward _ _ _ _ _ c.before.before.before.before.before.before.loop.invariant (omega arith) (omega arith) (c.before.before.before.block.ensures (not-false _ c.before.before.if2.false))
+returns-3 : tie.Need-returns-then-is_plain invariant-loop decreases-loop
+returns-3 c = onward _ _ _ _ _ c.before.before.before.before.before.before.loop-j.invariant (omega arith) (omega arith) (c.before.before.before.block.ensures (not-false _ c.before.before.if-not-block.false-raw))
 
-loop-less : tie.Need-loop-smaller invariant-loop decreases-loop
+loop-less : tie.Need-loop-j-smaller invariant-loop decreases-loop
 loop-less c = omega arith
 
-loop-again : tie.Need-loop-preserved invariant-loop decreases-loop
-loop-again c = onward _ _ _ _ _ c.before.before.before.before.before.before.loop.invariant (omega arith) (omega arith) (c.before.before.before.block.ensures (not-false _ c.before.before.if2.false))
+loop-again : tie.Need-loop-j-preserved invariant-loop decreases-loop
+loop-again c = onward _ _ _ _ _ c.before.before.before.before.before.before.loop-j.invariant (omega arith) (omega arith) (c.before.before.before.block.ensures (not-false _ c.before.before.if-not-block.false-raw))
 
-returns-4 : tie.Need-returns-4 invariant-loop decreases-loop
+returns-4 : tie.Need-returns invariant-loop decreases-loop
 returns-4 c = search rules
 
-pub pairs-end-spec : {M : Type 1} → statement M
-pairs-end-spec =
+pub pairs_end_spec : {M : Type 1} → statement M
+pairs_end_spec =
     tie.close
     (tie.spec
     invariant-loop

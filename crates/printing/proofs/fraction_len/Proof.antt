@@ -8,16 +8,16 @@ use Rattle.printing.specs.Course.{fraction_length}
 use Rattle.printing.proofs.fraction_len.Statement.{statement}
 use Rattle.printing.proofs.fraction_len.Tie as tie
 
-add-result : tie.Need-overflow-add-result
+add-result : tie.Need-overflow_add-result
 add-result c = search rules
 
-returns : tie.Need-returns
+returns : tie.Need-returns-then-frac-eq0
 unfolding fraction_length
-returns c = (sym (simp (eq-eqb _ _ c.if1.true)), omega arith)
+returns c = (sym (simp (eq-eqb _ _ c.if-frac-eq0.true)), omega arith)
 
-returns-2 : tie.Need-returns-2
+returns-2 : tie.Need-returns-else-frac-eq0
 unfolding fraction_length
-returns-2 c = (sym (simp (ne_eqb _ _ c.if1.false)), omega arith)
+returns-2 c = (sym (simp (ne_eqb _ _ c.if-frac-eq0.false)), omega arith)
 
-pub fraction-len-spec : {M : Type 1} → statement M
-fraction-len-spec = tie.close (tie.spec add-result returns returns-2)
+pub fraction_len_spec : {M : Type 1} → statement M
+fraction_len_spec = tie.close (tie.spec add-result returns returns-2)

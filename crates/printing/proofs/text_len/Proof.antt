@@ -5,20 +5,20 @@ use native.Mathlib.Omega.{arith}
 use Rattle.printing.proofs.text_len.Statement.{statement}
 use Rattle.printing.proofs.text_len.Tie as tie
 
-fraction-len-requires : tie.Need-fraction-len-requires
+fraction-len-requires : tie.Need-fraction_len-requires
 fraction-len-requires c κs = search rules
 
-add-n : tie.Need-overflow-add-n
+add-n : tie.Need-overflow_add-n
 add-n c = search rules
 
-add-result : tie.Need-overflow-add-result
+add-result : tie.Need-overflow_add-result
 add-result c = search rules
 
-returns : tie.Need-returns
-returns c = rw c.if1.true (omega arith)
+returns : tie.Need-returns-then-sign
+returns c = rw c.if-sign.true (omega arith)
 
-returns-2 : tie.Need-returns-2
-returns-2 c = rw c.if1.false (omega arith)
+returns-2 : tie.Need-returns-else-sign
+returns-2 c = rw c.if-sign.false (omega arith)
 
-pub text-len-spec : {M : Type 1} → statement M
-text-len-spec = tie.close (tie.spec fraction-len-requires add-n add-result returns returns-2)
+pub text_len_spec : {M : Type 1} → statement M
+text_len_spec = tie.close (tie.spec fraction-len-requires add-n add-result returns returns-2)

@@ -8,20 +8,20 @@ use borrow.Author.Rules.{rules}
 use Rattle.reading.proofs.begun.Statement.{statement}
 use Rattle.reading.proofs.begun.Tie as tie
 
-returns : tie.Need-returns
+returns : tie.Need-returns-then-at-ne0
 unfolding begins
-returns c = (sym (simp (ne_eqb _ _ c.if1.true)), c.before.requires.0)
+returns c = (sym (simp (ne_eqb _ _ c.if-at-ne0.true)), c.before.requires.0)
 
-add-result : tie.Need-overflow-add-result
+add-result : tie.Need-overflow_add-result
 add-result c = search rules
 
-returns-2 : tie.Need-returns-2
+returns-2 : tie.Need-returns-then-x-half
 unfolding begins flip_by
-returns-2 c = (sym (simp (eq-eqb _ _ c.before.if1.false, lt-ltb _ _ c.if2.true)), omega arith)
+returns-2 c = (sym (simp (eq-eqb _ _ c.before.if-at-ne0.false, lt-ltb _ _ c.if-x-half.true)), omega arith)
 
-returns-3 : tie.Need-returns-3
+returns-3 : tie.Need-returns-else-x-half
 unfolding begins flip_by
-returns-3 c = (sym (simp (eq-eqb _ _ c.before.if1.false, le-ltb _ _ c.if2.false)), omega arith)
+returns-3 c = (sym (simp (eq-eqb _ _ c.before.if-at-ne0.false, le-ltb _ _ c.if-x-half.false)), omega arith)
 
-pub begun-spec : {M : Type 1} → statement M
-begun-spec = tie.close (tie.spec returns add-result returns-2 returns-3)
+pub begun_spec : {M : Type 1} → statement M
+begun_spec = tie.close (tie.spec returns add-result returns-2 returns-3)

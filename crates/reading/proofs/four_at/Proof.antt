@@ -12,14 +12,14 @@ four-requires c κs = search rules
 
 show-requires : tie.Need-show-requires
 show-requires c κs =
-    let s = c.before.before in
+    let s = c in
     let l = bytes_lt s.args.bytes.now s.args.at 4 c.four.result (omega arith) c.four.ensures in
     omega arith
 
 returns : tie.Need-returns
 returns c =
-    let a = c.before.before.before.args in
-    c.show.ensures ∙ of-bytes a.bytes.now 3 c.before.four.result a.inverted a.at (omega arith) c.before.four.ensures
+    let a = c.args in
+    c.show.ensures ∙ of-bytes a.bytes.now 3 c.four.result a.inverted a.at (omega arith) c.four.ensures
 
-pub four-at-spec : {M : Type 1} → statement M
-four-at-spec = tie.close (tie.spec four-requires show-requires returns)
+pub four_at_spec : {M : Type 1} → statement M
+four_at_spec = tie.close (tie.spec four-requires show-requires returns)

@@ -6,7 +6,7 @@ use borrow.Author.Rules.{rules}
 use Rattle.reading.proofs.one.Statement.{statement}
 use Rattle.reading.proofs.one.Tie as tie
 
-shared-slice-read-wide : tie.Need-shared-slice-read-wide
+shared-slice-read-wide : tie.Need-bounds-bytes-at
 shared-slice-read-wide c = search rules
 
 wide-requires : tie.Need-wide-requires

@@ -9,34 +9,34 @@ use Rattle.reading.proofs.three.Tie as tie
 two-requires : tie.Need-two-requires
 two-requires c κs = search rules
 
-mul-result : tie.Need-overflow-mul-result
+mul-result : tie.Need-overflow_mul-result
 mul-result c =
-    let s = c.before.before in
+    let s = c in
     let l = bytes_lt s.args.bytes.now s.args.at 2 c.two.result (omega arith) c.two.ensures in
     omega arith
 
-add_wide : tie.Need-overflow-add-wide
+add_wide : tie.Need-overflow_add-at
 add_wide c = search rules
 
-shared-slice-read-wide : tie.Need-shared-slice-read-wide
+shared-slice-read-wide : tie.Need-bounds-bytes-at
 shared-slice-read-wide c = search rules
 
 wide-requires : tie.Need-wide-requires
 wide-requires c κs = search rules
 
-add-result : tie.Need-overflow-add-result
+add-result : tie.Need-overflow_add-result
 add-result c =
-    let s = c.before.before.before.before in
-    let p = c.before.before.two in
+    let s = c in
+    let p = c.two in
     let l = bytes_lt s.args.bytes.now s.args.at 2 p.result (omega arith) p.ensures in
     let b = c.wide.ensures.1 in
     omega arith
 
 returns : tie.Need-returns
-returns c = grown _ _ _ _ _ (omega arith) c.before.before.two.ensures c.wide.ensures.0 c.wide.ensures.1
+returns c = grown _ _ _ _ _ (omega arith) c.two.ensures c.wide.ensures.0 c.wide.ensures.1
 
-pub three-spec : {M : Type 1} → statement M
-three-spec =
+pub three_spec : {M : Type 1} → statement M
+three_spec =
     tie.close
     (tie.spec
     two-requires

@@ -6,11 +6,11 @@ use Rattle.root_event.proofs.first_byte.Tie as tie
 use Rattle.root_event.proofs.first_byte.Reads as reads
 use Rattle.root_event.proofs.first_byte.Lts as lts
 
-returns : tie.Need-returns
-returns c = empty-first _ c.if1.true
+returns : tie.Need-returns-then-doc-eq0
+returns c = empty-first _ c.if-doc-eq0.true
 
-returns-2 : tie.Need-returns-2
-returns-2 c = some_first _ c.if1.false
+returns-2 : tie.Need-returns
+returns-2 c = some_first _ c.if-doc-eq0.false
 
-pub first-byte-spec : {M : Type 1} → statement M
-first-byte-spec = tie.close (tie.spec returns returns-2)
+pub first_byte_spec : {M : Type 1} → statement M
+first_byte_spec = tie.close (tie.spec returns returns-2)

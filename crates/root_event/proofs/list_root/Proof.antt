@@ -12,26 +12,26 @@ use Rattle.root_event.proofs.list_value.Reads as list-value-reads
 deserialize-requires : tie.Need-deserialize-requires
 deserialize-requires c κs = search rules
 
-enum-known-x : tie.Need-enum-known-x
+enum-known-x : tie.Need-enum_known-x
 enum-known-x c = search rules
 
-list-value-requires : tie.Need-list-value-requires
+list-value-requires : tie.Need-list_value-requires
 list-value-requires c κs = search rules
 
-enum-known-number : tie.Need-enum-known-number
+enum-known-number : tie.Need-enum_known-number
 enum-known-number c = search rules
 
-same_length : tie.Need-same-length
+same_length : tie.Need-shape_of-out
 same_length c = search rules
 
-returns : tie.Need-returns
-returns c = root-value c.before.before.before.before.before.before.before.before.before.before.args.doc.now c.before.before.before.before.before.before.before.before.before.before.args.out.now c.before.before.before.before.before.before.before.deserialize.ensures c.before.before.before.before.before.x.given.1 c.before.before.list-value.ensures
+returns : tie.Need-returns-in-Value
+returns c = root-value c.args.doc.now c.args.out.now c.deserialize.ensures c.in-Value.is c.list_value.ensures
 
-returns-2 : tie.Need-returns-2
-returns-2 c = root-refused c.before.before.before.before.before.before.args.doc.now c.before.before.before.before.before.before.args.out.now c.before.before.before.deserialize.ensures c.before.number.given.1
+returns-2 : tie.Need-returns-in-Refused
+returns-2 c = root-refused c.args.doc.now c.args.out.now c.deserialize.ensures c.in-Refused.is
 
-pub list-root-spec : {M : Type 1} → statement M
-list-root-spec =
+pub list_root_spec : {M : Type 1} → statement M
+list_root_spec =
     tie.close
     (tie.spec
     deserialize-requires

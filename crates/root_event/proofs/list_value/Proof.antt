@@ -13,32 +13,32 @@ use Rattle.texts.proofs.break_or.Reads as break-or-reads
 use Rattle.texts.proofs.is_text.Reads as is-text-reads
 use Rattle.root_event.proofs.string_of.Reads as string-of-reads
 
-string-of-requires : tie.Need-string-of-requires
+string-of-requires : tie.Need-string_of-string-requires
 string-of-requires c κs = search rules
 
-is-text-requires : tie.Need-is-text-requires
+is-text-requires : tie.Need-is_text-requires
 is-text-requires c κs = search rules
 
-break-or-requires : tie.Need-break-or-requires
+break-or-requires : tie.Need-break_or-requires
 break-or-requires c κs = search rules
 
-returns : tie.Need-returns
-returns c = value-breaks _ c.before.before.before.before.before.before.args.x _ c.before.before.before.string-of.ensures c.before.before.is-text.ensures (not-true _ c.before.if1.true) c.break-or.ensures
+returns : tie.Need-returns-then-not-is_text
+returns c = value-breaks _ c.args.x _ c.string_of-string.ensures c.is_text.ensures (not-true _ c.if-not-is_text.true-raw) c.break_or.ensures
 
-first-byte-requires : tie.Need-first-byte-requires
+first-byte-requires : tie.Need-first_byte-requires
 first-byte-requires c κs = search rules
 
-put-value-requires : tie.Need-put-value-requires
+put-value-requires : tie.Need-put_value-requires
 put-value-requires c κs = search rules
 
-same_length : tie.Need-same-length
+same_length : tie.Need-shape_of-out
 same_length c = search rules
 
-returns-2 : tie.Need-returns-2
-returns-2 c = value-listed _ c.before.before.before.before.before.before.before.before.before.before.args.x _ c.before.before.before.before.before.before.before.string-of.ensures c.before.before.before.before.before.before.is-text.ensures (not-false _ c.before.before.before.before.before.if1.false) c.before.before.before.first_byte.ensures c.before.before.put-value.ensures
+returns-2 : tie.Need-returns
+returns-2 c = value-listed _ c.args.x _ c.string_of-string.ensures c.is_text.ensures (not-false _ c.if-not-is_text.false-raw) c.first_byte.ensures c.put_value.ensures
 
-pub list-value-spec : {M : Type 1} → statement M
-list-value-spec =
+pub list_value_spec : {M : Type 1} → statement M
+list_value_spec =
     tie.close
     (tie.spec
     string-of-requires

@@ -8,38 +8,38 @@ use Rattle.root_event.proofs.string_in.Tie as tie
 use Rattle.root_event.proofs.string_in.Reads as reads
 use Rattle.root_event.proofs.string_in.Lts as lts
 
-enum_told : tie.Need-enum-told
+enum_told : tie.Need-enum_told-1
 enum_told c = search rules
 
-enum-told-2 : tie.Need-enum-told-2
+enum-told-2 : tie.Need-enum_told-in-Boolean
 enum-told-2 c = search rules
 
-enum-told-3 : tie.Need-enum-told-3
+enum-told-3 : tie.Need-enum_told-in-Number
 enum-told-3 c = search rules
 
-enum-known-s : tie.Need-enum-known-s
+enum-known-s : tie.Need-enum_known-s
 enum-known-s c = search rules
 
-enum-told-4 : tie.Need-enum-told-4
+enum-told-4 : tie.Need-enum_told-in-Opaque
 enum-told-4 c = search rules
 
-returns : tie.Need-returns
-returns c = sym (ap string_in c.enum_told.given.1)
+returns : tie.Need-returns-in-Null
+returns c = sym (ap string_in c.in-Null.is)
 
-returns-2 : tie.Need-returns-2
-returns-2 c = sym (ap string_in c.enum-told2.given.1)
+returns-2 : tie.Need-returns-in-Boolean
+returns-2 c = sym (ap string_in c.in-Boolean.is)
 
-returns-3 : tie.Need-returns-3
-returns-3 c = sym (ap string_in c.enum-told3.given.1)
+returns-3 : tie.Need-returns-in-Number
+returns-3 c = sym (ap string_in c.in-Number.is)
 
-returns-4 : tie.Need-returns-4
+returns-4 : tie.Need-returns-in-String
 returns-4 c = search rules
 
-returns-5 : tie.Need-returns-5
-returns-5 c = sym (ap string_in c.enum-told4.given.1)
+returns-5 : tie.Need-returns-in-Opaque
+returns-5 c = sym (ap string_in c.in-Opaque.is)
 
-pub string-in-spec : {M : Type 1} → statement M
-string-in-spec =
+pub string_in_spec : {M : Type 1} → statement M
+string_in_spec =
     tie.close
     (tie.spec
     enum_told

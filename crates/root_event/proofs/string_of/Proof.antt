@@ -9,20 +9,20 @@ use Rattle.root_event.proofs.string_of.Reads as reads
 use Rattle.root_event.proofs.string_of.Lts as lts
 use Rattle.root_event.proofs.string_in.Reads as string-in-reads
 
-enum-known-x : tie.Need-enum-known-x
+enum-known-x : tie.Need-enum_known-x
 enum-known-x c = search rules
 
-string-in-requires : tie.Need-string-in-requires
+string-in-requires : tie.Need-string_in-requires
 string-in-requires c κs = search rules
 
-enum_told : tie.Need-enum-told
+enum_told : tie.Need-enum_told-1
 enum_told c = search rules
 
-returns : tie.Need-returns
-returns c = c.string-in.ensures ∙ sym (ap string_of c.before.before.x.given.1)
+returns : tie.Need-returns-in-Scalar
+returns c = c.string_in.ensures ∙ sym (ap string_of c.in-Scalar.is)
 
-returns-2 : tie.Need-returns-2
-returns-2 c = sym (ap string_of c.enum_told.given.1)
+returns-2 : tie.Need-returns-in-Container
+returns-2 c = sym (ap string_of c.in-Container.is)
 
-pub string-of-spec : {M : Type 1} → statement M
-string-of-spec = tie.close (tie.spec enum-known-x string-in-requires enum_told returns returns-2)
+pub string_of_spec : {M : Type 1} → statement M
+string_of_spec = tie.close (tie.spec enum-known-x string-in-requires enum_told returns returns-2)

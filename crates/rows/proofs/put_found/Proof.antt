@@ -9,56 +9,56 @@ use borrow.Author.Rules.{rules}
 use Rattle.rows.proofs.put_found.Statement.{statement}
 use Rattle.rows.proofs.put_found.Tie as tie
 
-returns : tie.Need-returns
-returns c = too_short 5 _ c.if1.true
+returns : tie.Need-returns-then-answer-lt5
+returns c = too_short 5 _ c.if-answer-lt5.true
 
-enum-known-f : tie.Need-enum-known-f
+enum-known-f : tie.Need-enum_known-f
 enum-known-f c = search rules
 
-put-value-requires : tie.Need-put-value-requires
+put-value-requires : tie.Need-put_value-requires
 put-value-requires c κs = search rules
 
-enum_told : tie.Need-enum-told
+enum_told : tie.Need-enum_told-1
 enum_told c = search rules
 
-put-five-requires : tie.Need-put-five-requires
+put-five-requires : tie.Need-put_five-requires
 put-five-requires c κs = search rules
 
-enum-known-f-2 : tie.Need-enum-known-f-2
+enum-known-f-2 : tie.Need-enum_known-f-in-Refused-1
 enum-known-f-2 c = search rules
 
 widen-requires : tie.Need-widen-requires
 widen-requires c κs = search rules
 
-same_length : tie.Need-same-length
+same_length : tie.Need-shape_of-answer-in-Value
 same_length c = search rules
 
-returns-2 : tie.Need-returns-2
+returns-2 : tie.Need-returns-in-Value
 returns-2 c =
-    let if1 = c.before.before.before.before.before.before.before.if1 in
-    let f = c.before.before.before.before.before.f in
-    let put-value = c.before.before.put-value in
-    stores 5 _ if1.false (ap (λ (f : Found). value_told (found_said f)) (sym f.given.1)) refl put-value.ensures
+    let if1 = c.if-answer-lt5 in
+    let f = c.in-Value in
+    let put-value = c.put_value in
+    stores 5 _ if1.false (ap (λ (f : Found). value_told (found_said f)) (sym f.is)) refl put-value.ensures
 
-same-length-2 : tie.Need-same-length-2
+same-length-2 : tie.Need-shape_of-answer-in-Nothing
 same-length-2 c = search rules
 
-returns-3 : tie.Need-returns-3
+returns-3 : tie.Need-returns-in-Nothing
 returns-3 c =
-    let if1 = c.before.before.before.before.before.before.if1 in
-    let enum_told = c.before.before.before.before.enum_told in
-    let put_five = c.before.before.put_five in
-    stores 5 _ if1.false (ap (λ (f : Found). value_told (found_said f)) (sym enum_told.given.1)) refl put_five.ensures
+    let if1 = c.if-answer-lt5 in
+    let enum_told = c.in-Nothing in
+    let put_five = c.put_five in
+    stores 5 _ if1.false (ap (λ (f : Found). value_told (found_said f)) (sym enum_told.is)) refl put_five.ensures
 
-returns-4 : tie.Need-returns-4
+returns-4 : tie.Need-returns-in-Refused
 returns-4 c =
-    let if1 = c.before.before.before.before.if1 in
-    let f2 = c.before.before.f2 in
+    let if1 = c.if-answer-lt5 in
+    let f2 = c.in-Refused in
     let widen = c.widen in
-    stores-none 5 _ if1.false (ap (λ (f : Found). value_told (found_said f)) (sym f2.given.1)) widen.ensures
+    stores-none 5 _ if1.false (ap (λ (f : Found). value_told (found_said f)) (sym f2.is)) widen.ensures
 
-pub put-found-spec : {M : Type 1} → statement M
-put-found-spec =
+pub put_found_spec : {M : Type 1} → statement M
+put_found_spec =
     tie.close
     (tie.spec
     returns

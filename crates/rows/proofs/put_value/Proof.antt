@@ -12,28 +12,28 @@ use borrow.Author.Rules.{rules}
 use Rattle.rows.proofs.put_value.Statement.{statement}
 use Rattle.rows.proofs.put_value.Tie as tie
 
-event-of-requires : tie.Need-event-of-requires
+event-of-requires : tie.Need-event_of-e-requires
 event-of-requires c κs = search rules
 
-holds-requires : tie.Need-holds-requires
+holds-requires : tie.Need-holds-h-requires
 holds-requires c κs = search rules
 
-kind-of-requires : tie.Need-kind-of-requires
+kind-of-requires : tie.Need-kind_of-requires
 kind-of-requires c κs = search rules
 
-put-five-requires : tie.Need-put-five-requires
+put-five-requires : tie.Need-put_five-requires
 put-five-requires c κs = search rules
 
-same_length : tie.Need-same-length
+same_length : tie.Need-shape_of-answer
 same_length c = search rules
 
 returns : tie.Need-returns
 returns c =
-    let a = c.before.before.before.before.before.before.before.before.args in
-    let event-of = c.before.before.before.before.before.before.event-of in
-    let holds = c.before.before.before.before.before.holds in
-    let kind-of = c.before.before.before.kind-of in
-    let put_five = c.before.before.put_five in
+    let a = c.args in
+    let event-of = c.event_of-e in
+    let holds = c.holds-h in
+    let kind-of = c.kind_of in
+    let put_five = c.put_five in
     let out = a.answer.now in
     let h = holds.result in
     let e = event-of.result in
@@ -42,8 +42,8 @@ returns c =
     ∙ ap (λ (v : Event). laid (kind_of a.x ∷ v.code ∷ h.start ∷ h.len ∷ v.extra ∷ []) out) event-of.ensures
     ∙ ap (λ (s : Span). laid (kind_of a.x ∷ code_of a.x ∷ s.start ∷ s.len ∷ extra_of a.x ∷ []) out) holds.ensures
 
-pub put-value-spec : {M : Type 1} → statement M
-put-value-spec =
+pub put_value_spec : {M : Type 1} → statement M
+put_value_spec =
     tie.close
     (tie.spec
     event-of-requires

@@ -5,35 +5,35 @@ use borrow.Author.Rules.{rules}
 use Rattle.sight.proofs.pointed.Statement.{statement}
 use Rattle.sight.proofs.pointed.Tie as tie
 
-offset-size-requires : tie.Need-offset-size-requires
+offset-size-requires : tie.Need-offset_size-requires
 offset-size-requires c κs = search rules
 
-add-own : tie.Need-overflow-add-own
+add-own : tie.Need-overflow_add-own
 add-own c = search rules
 
-add-end : tie.Need-overflow-add-end
+add-end : tie.Need-overflow_add-end
 add-end c = search rules
 
-offset-at-requires : tie.Need-offset-at-requires
+offset-at-requires : tie.Need-offset_at-requires
 offset-at-requires c κs = search rules
 
-cast-at : tie.Need-overflow-cast-at
+cast-at : tie.Need-overflow_cast-at-2
 cast-at c = search rules
 
-add_at : tie.Need-overflow-add-at
+add_at : tie.Need-overflow_add-at
 add_at c = search rules
 
-returns : tie.Need-returns
-returns c = place-low _ _ _ c.before.before.offset-size.ensures.0 c.before.offset_at.ensures c.if1.true
+returns : tie.Need-returns-then-at-own
+returns c = place-low _ _ _ c.offset_size.ensures.0 c.offset_at.ensures c.if-at-own.true
 
-returns-2 : tie.Need-returns-2
-returns-2 c = place-high _ _ _ c.before.before.before.offset-size.ensures.0 c.before.before.offset_at.ensures c.before.if1.false c.if2.true
+returns-2 : tie.Need-returns-then-end-at
+returns-2 c = place-high _ _ _ c.offset_size.ensures.0 c.offset_at.ensures c.if-at-own.false c.if-end-at.true
 
-returns-3 : tie.Need-returns-3
-returns-3 c = place-right _ _ _ c.before.before.before.offset-size.ensures.0 c.before.before.offset_at.ensures c.before.if1.false c.if2.false
+returns-3 : tie.Need-returns
+returns-3 c = place-right _ _ _ c.offset_size.ensures.0 c.offset_at.ensures c.if-at-own.false c.if-end-at.false
 
-pub pointed-spec : {M : Type 1} → statement M
-pointed-spec =
+pub pointed_spec : {M : Type 1} → statement M
+pointed_spec =
     tie.close
     (tie.spec
     offset-size-requires

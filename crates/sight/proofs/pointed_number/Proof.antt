@@ -7,28 +7,28 @@ use borrow.Author.Rules.{rules}
 use Rattle.sight.proofs.pointed_number.Statement.{statement}
 use Rattle.sight.proofs.pointed_number.Tie as tie
 
-pointed-requires : tie.Need-pointed-requires
+pointed-requires : tie.Need-pointed-at-requires
 pointed-requires c κs = search rules
 
 refused-requires : tie.Need-refused-requires
 refused-requires c κs = search rules
 
-returns : tie.Need-returns
-returns c = c.refused.ensures ∙ (pointed _ _ _ c.before.before.before.before.requires.1 _ c.before.before.pointed.ensures).none c.before.if1.true
+returns : tie.Need-returns-then-at-eq0
+returns c = c.refused.ensures ∙ (pointed _ _ _ c.requires.1 _ c.pointed-at.ensures).none c.if-at-eq0.true
 
-add-sight-number : tie.Need-overflow-add-sight-number
+add-sight-number : tie.Need-overflow_add-start
 add-sight-number c = search rules
 
-sight-number-requires : tie.Need-sight-number-requires
+sight-number-requires : tie.Need-sight_number-requires
 sight-number-requires c κs =
-    let h = (pointed-inside _ _ _ c.before.before.before.requires.1 c.before.pointed.ensures c.if1.false).within in
-    (c.before.before.before.requires.0, (h.order, omega (arith, h.inside, h.short)))
+    let h = (pointed-inside _ _ _ c.requires.1 c.pointed-at.ensures c.if-at-eq0.false).within in
+    (c.requires.0, (h.order, omega (arith, h.inside, h.short)))
 
-returns-2 : tie.Need-returns-2
-returns-2 c = c.sight-number.ensures ∙ (pointed _ _ _ c.before.before.before.before.requires.1 _ c.before.before.pointed.ensures).some c.before.if1.false
+returns-2 : tie.Need-returns
+returns-2 c = c.sight_number.ensures ∙ (pointed _ _ _ c.requires.1 _ c.pointed-at.ensures).some c.if-at-eq0.false
 
-pub pointed-number-spec : {M : Type 1} → statement M
-pointed-number-spec =
+pub pointed_number_spec : {M : Type 1} → statement M
+pointed_number_spec =
     tie.close
     (tie.spec
     pointed-requires

@@ -6,26 +6,26 @@ use borrow.Author.Rules.{rules}
 use Rattle.sight.proofs.pointed_opaque.Statement.{statement}
 use Rattle.sight.proofs.pointed_opaque.Tie as tie
 
-pointed-requires : tie.Need-pointed-requires
+pointed-requires : tie.Need-pointed-at-requires
 pointed-requires c κs = search rules
 
 refused-requires : tie.Need-refused-requires
 refused-requires c κs = search rules
 
-returns : tie.Need-returns
-returns c = c.refused.ensures ∙ (pointed _ _ _ c.before.before.before.before.requires _ c.before.before.pointed.ensures).none c.before.if1.true
+returns : tie.Need-returns-then-at-eq0
+returns c = c.refused.ensures ∙ (pointed _ _ _ c.requires _ c.pointed-at.ensures).none c.if-at-eq0.true
 
-add-sight-opaque : tie.Need-overflow-add-sight-opaque
+add-sight-opaque : tie.Need-overflow_add-start
 add-sight-opaque c = search rules
 
-sight-opaque-requires : tie.Need-sight-opaque-requires
-sight-opaque-requires c κs = pointed-inside _ _ _ c.before.before.before.requires c.before.pointed.ensures c.if1.false
+sight-opaque-requires : tie.Need-sight_opaque-requires
+sight-opaque-requires c κs = pointed-inside _ _ _ c.requires c.pointed-at.ensures c.if-at-eq0.false
 
-returns-2 : tie.Need-returns-2
-returns-2 c = c.sight-opaque.ensures ∙ (pointed _ _ _ c.before.before.before.before.requires _ c.before.before.pointed.ensures).some c.before.if1.false
+returns-2 : tie.Need-returns
+returns-2 c = c.sight_opaque.ensures ∙ (pointed _ _ _ c.requires _ c.pointed-at.ensures).some c.if-at-eq0.false
 
-pub pointed-opaque-spec : {M : Type 1} → statement M
-pointed-opaque-spec =
+pub pointed_opaque_spec : {M : Type 1} → statement M
+pointed_opaque_spec =
     tie.close
     (tie.spec
     pointed-requires

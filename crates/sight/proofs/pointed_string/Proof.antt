@@ -6,26 +6,26 @@ use borrow.Author.Rules.{rules}
 use Rattle.sight.proofs.pointed_string.Statement.{statement}
 use Rattle.sight.proofs.pointed_string.Tie as tie
 
-pointed-requires : tie.Need-pointed-requires
+pointed-requires : tie.Need-pointed-at-requires
 pointed-requires c κs = search rules
 
 refused-requires : tie.Need-refused-requires
 refused-requires c κs = search rules
 
-returns : tie.Need-returns
-returns c = c.refused.ensures ∙ (pointed _ _ _ c.before.before.before.before.requires _ c.before.before.pointed.ensures).none c.before.if1.true
+returns : tie.Need-returns-then-at-eq0
+returns c = c.refused.ensures ∙ (pointed _ _ _ c.requires _ c.pointed-at.ensures).none c.if-at-eq0.true
 
-add-sight-part : tie.Need-overflow-add-sight-part
+add-sight-part : tie.Need-overflow_add-start
 add-sight-part c = search rules
 
-sight-part-requires : tie.Need-sight-part-requires
-sight-part-requires c κs = (pointed-inside _ _ _ c.before.before.before.requires c.before.pointed.ensures c.if1.false).within
+sight-part-requires : tie.Need-sight_part-requires
+sight-part-requires c κs = (pointed-inside _ _ _ c.requires c.pointed-at.ensures c.if-at-eq0.false).within
 
-returns-2 : tie.Need-returns-2
-returns-2 c = c.sight-part.ensures ∙ (pointed _ _ _ c.before.before.before.before.requires _ c.before.before.pointed.ensures).some c.before.if1.false
+returns-2 : tie.Need-returns
+returns-2 c = c.sight_part.ensures ∙ (pointed _ _ _ c.requires _ c.pointed-at.ensures).some c.if-at-eq0.false
 
-pub pointed-string-spec : {M : Type 1} → statement M
-pointed-string-spec =
+pub pointed_string_spec : {M : Type 1} → statement M
+pointed_string_spec =
     tie.close
     (tie.spec
     pointed-requires

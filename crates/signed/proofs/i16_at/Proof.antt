@@ -6,14 +6,14 @@ use Rattle.signed.proofs.Sign.{handed}
 use Rattle.signed.proofs.i16_at.Statement.{statement}
 use Rattle.signed.proofs.i16_at.Tie as tie
 
-u16-at-requires : tie.Need-u16-at-requires
+u16-at-requires : tie.Need-u16_at-requires
 u16-at-requires c κs = search rules
 
 signed-requires : tie.Need-signed-requires
 signed-requires c κs = search rules
 
 returns : tie.Need-returns
-returns c = handed w16 (record { sfits = c.signed.type-inv }) c.signed.ensures c.before.u16-at.ensures.0
+returns c = handed w16 (record { sfits = c.signed.type_inv }) c.signed.ensures c.before.u16_at.ensures.0
 
-pub i16-at-spec : {M : Type 1} → statement M
-i16-at-spec = tie.close (tie.spec u16-at-requires signed-requires returns)
+pub i16_at_spec : {M : Type 1} → statement M
+i16_at_spec = tie.close (tie.spec u16-at-requires signed-requires returns)

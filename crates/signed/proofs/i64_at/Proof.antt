@@ -6,14 +6,14 @@ use Rattle.signed.proofs.Sign.{handed}
 use Rattle.signed.proofs.i64_at.Statement.{statement}
 use Rattle.signed.proofs.i64_at.Tie as tie
 
-u64-at-requires : tie.Need-u64-at-requires
+u64-at-requires : tie.Need-u64_at-requires
 u64-at-requires c κs = search rules
 
 signed-requires : tie.Need-signed-requires
 signed-requires c κs = search rules
 
 returns : tie.Need-returns
-returns c = handed w64 (record { sfits = c.signed.type-inv }) c.signed.ensures c.before.u64-at.ensures
+returns c = handed w64 (record { sfits = c.signed.type_inv }) c.signed.ensures c.before.u64_at.ensures
 
-pub i64-at-spec : {M : Type 1} → statement M
-i64-at-spec = tie.close (tie.spec u64-at-requires signed-requires returns)
+pub i64_at_spec : {M : Type 1} → statement M
+i64_at_spec = tie.close (tie.spec u64-at-requires signed-requires returns)

@@ -6,31 +6,31 @@ use borrow.Author.Rules.{rules}
 use Rattle.steps.proofs.read_member.Statement.{statement}
 use Rattle.steps.proofs.read_member.Tie as tie
 
-read-key-requires : tie.Need-read-key-requires
+read-key-requires : tie.Need-read_key-requires
 read-key-requires c κs = search rules
 
-enum-known-s : tie.Need-enum-known-s
+enum-known-s : tie.Need-enum_known-s
 enum-known-s c = search rules
 
-read-entry-requires : tie.Need-read-entry-requires
+read-entry-requires : tie.Need-read_entry-requires
 read-entry-requires c κs = search rules
 
-with-value-requires : tie.Need-with-value-requires
+with-value-requires : tie.Need-with_value-requires
 with-value-requires c κs = search rules
 
-enum-known-n : tie.Need-enum-known-n
+enum-known-n : tie.Need-enum_known-n
 enum-known-n c = search rules
 
-returns : tie.Need-returns
+returns : tie.Need-returns-in-Bytes
 returns c =
     c.with_value.ensures
-    ∙ member_is _ _ _ c.before.before.before.before.before.read-key.ensures c.before.before.before.s.given.1 c.before.read-entry.ensures
+    ∙ member_is _ _ _ c.read_key.ensures c.in-Bytes.is c.read_entry.ensures
 
-returns-2 : tie.Need-returns-2
-returns-2 c = member_is _ _ _ c.before.before.before.read-key.ensures c.before.n.given.1 refl
+returns-2 : tie.Need-returns-in-Refused
+returns-2 c = member_is _ _ _ c.read_key.ensures c.in-Refused.is refl
 
-pub read-member-spec : {M : Type 1} → statement M
-read-member-spec =
+pub read_member_spec : {M : Type 1} → statement M
+read_member_spec =
     tie.close
     (tie.spec
     read-key-requires

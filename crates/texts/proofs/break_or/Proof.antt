@@ -5,28 +5,25 @@ use Rattle.texts.proofs.Cases.{bad-small, no-break, break-is}
 use borrow.Author.Rules.{rules}
 use Rattle.texts.proofs.break_or.Statement.{statement}
 use Rattle.texts.proofs.break_or.Tie as tie
-use Rattle.texts.proofs.break_or.Reads as reads
-use Rattle.texts.proofs.break_or.Lts as lts
-use Rattle.texts.proofs.bad_byte.Reads as bad-byte-reads
 
-bad-byte-requires : tie.Need-bad-byte-requires
+bad-byte-requires : tie.Need-bad_byte-nth-requires
 bad-byte-requires c κs = search rules
 
-returns : tie.Need-returns
-returns c = no-break c.before.before.before.args.doc.now c.before.before.before.args.s c.before.bad-byte.ensures c.before.before.before.args.place c.if1.true
+returns : tie.Need-returns-then-nth-eq0
+returns c = no-break c.args.doc.now c.args.s c.bad_byte-nth.ensures c.args.place c.if-nth-eq0.true
 
-cast-result : tie.Need-overflow-cast-result
+cast-result : tie.Need-overflow_cast-result
 cast-result c = search rules
 
-sub-result : tie.Need-overflow-sub-result
+sub-result : tie.Need-overflow_sub-result
 sub-result c = search rules
 
-add-result : tie.Need-overflow-add-result
-add-result c = omega (arith, bad-small c.before.before.before.before.args.doc.now c.before.before.before.before.args.s, c.before.before.bad-byte.ensures)
+add-result : tie.Need-overflow_add-result
+add-result c = omega (arith, bad-small c.args.doc.now c.args.s, c.bad_byte-nth.ensures)
 
-returns-2 : tie.Need-returns-2
-returns-2 c = break-is c.before.before.before.before.args.doc.now c.before.before.before.before.args.s c.before.before.bad-byte.ensures c.before.before.before.before.args.place c.before.if1.false
+returns-2 : tie.Need-returns
+returns-2 c = break-is c.args.doc.now c.args.s c.bad_byte-nth.ensures c.args.place c.if-nth-eq0.false
 
-pub break-or-spec : {M : Type 1} → statement M
-break-or-spec =
+pub break_or_spec : {M : Type 1} → statement M
+break_or_spec =
     tie.close (tie.spec bad-byte-requires returns cast-result sub-result add-result returns-2)

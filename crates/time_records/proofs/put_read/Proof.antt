@@ -7,37 +7,37 @@ use borrow.Author.Rules.{rules}
 use Rattle.time_records.proofs.put_read.Statement.{statement}
 use Rattle.time_records.proofs.put_read.Tie as tie
 
-returns : tie.Need-returns
-returns c = too_short 9 _ c.if1.true
+returns : tie.Need-returns-then-answer-lt9
+returns c = too_short 9 _ c.if-answer-lt9.true
 
-enum-known-a : tie.Need-enum-known-a
+enum-known-a : tie.Need-enum_known-a
 enum-known-a c = search rules
 
-put-time-requires : tie.Need-put-time-requires
+put-time-requires : tie.Need-put_time-requires
 put-time-requires c κs = search rules
 
-enum-known-a-2 : tie.Need-enum-known-a-2
+enum-known-a-2 : tie.Need-enum_known-a-in-Refused-1
 enum-known-a-2 c = search rules
 
 widen-requires : tie.Need-widen-requires
 widen-requires c κs = search rules
 
-same_length : tie.Need-same-length
+same_length : tie.Need-shape_of-answer
 same_length c = search rules
 
-returns-2 : tie.Need-returns-2
+returns-2 : tie.Need-returns-in-Time
 returns-2 c =
-    let w = c.before.before in
-    let is = w.before.before.before in
-    stores 9 _ is.before.before.if1.false (ap read_says (sym is.a.given.1)) refl w.put-time.ensures
+    let w = c in
+    let is = w in
+    stores 9 _ is.if-answer-lt9.false (ap read_says (sym is.in-Time.is)) refl w.put_time.ensures
 
-returns-3 : tie.Need-returns-3
+returns-3 : tie.Need-returns-in-Refused
 returns-3 c =
-    let is = c.before.before in
-    stores-none 9 _ is.before.before.if1.false (ap read_says (sym is.a2.given.1)) c.widen.ensures
+    let is = c in
+    stores-none 9 _ is.if-answer-lt9.false (ap read_says (sym is.in-Refused.is)) c.widen.ensures
 
-pub put-read-spec : {M : Type 1} → statement M
-put-read-spec =
+pub put_read_spec : {M : Type 1} → statement M
+put_read_spec =
     tie.close
     (tie.spec
     returns

@@ -7,44 +7,44 @@ use borrow.Author.Rules.{rules}
 use Rattle.utf8.proofs.char_at.Statement.{statement}
 use Rattle.utf8.proofs.char_at.Tie as tie
 
-shared-slice-read-b : tie.Need-shared-slice-read-b
+shared-slice-read-b : tie.Need-bounds-s-at
 shared-slice-read-b c = search rules
 
-add-t7 : tie.Need-overflow-add-t7
+add-t7 : tie.Need-overflow_add-result
 add-t7 c = search rules
 
-returns : tie.Need-returns
-returns c = on (one _ _ (omega arith) c.if1.true) (omega arith)
+returns : tie.Need-returns-then-b-lt128
+returns c = on (one _ _ (omega arith) c.if-b-lt128.true) (omega arith)
 
-fit-two-requires : tie.Need-fit-two-requires
+fit-two-requires : tie.Need-fit_two-requires
 fit-two-requires c κs = search rules
 
 past-requires : tie.Need-past-requires
 past-requires c κs = search rules
 
-returns-2 : tie.Need-returns-2
+returns-2 : tie.Need-returns-then-b-lt224
 returns-2 c = search rules
 
-fit-three-requires : tie.Need-fit-three-requires
+fit-three-requires : tie.Need-fit_three-requires
 fit-three-requires c κs = search rules
 
-past-requires-2 : tie.Need-past-requires-2
+past-requires-2 : tie.Need-past-requires-then-b-lt240
 past-requires-2 c κs = search rules
 
-returns-3 : tie.Need-returns-3
+returns-3 : tie.Need-returns-then-b-lt240
 returns-3 c = search rules
 
-fit-four-requires : tie.Need-fit-four-requires
+fit-four-requires : tie.Need-fit_four-requires
 fit-four-requires c κs = search rules
 
-past-requires-3 : tie.Need-past-requires-3
+past-requires-3 : tie.Need-past-requires-2
 past-requires-3 c κs = search rules
 
-returns-4 : tie.Need-returns-4
+returns-4 : tie.Need-returns
 returns-4 c = search rules
 
-pub char-at-spec : {M : Type 1} → statement M
-char-at-spec =
+pub char_at_spec : {M : Type 1} → statement M
+char_at_spec =
     tie.close
     (tie.spec
     shared-slice-read-b

@@ -8,58 +8,58 @@ use borrow.Author.Rules.{rules}
 use Rattle.utf8.proofs.fit_four.Statement.{statement}
 use Rattle.utf8.proofs.fit_four.Tie as tie
 
-shared-slice-read-if1 : tie.Need-shared-slice-read-if1
+shared-slice-read-if1 : tie.Need-bounds-s-at
 shared-slice-read-if1 c = search rules
 
-returns : tie.Need-returns
-returns c = fit_none 4 _ _ (lit< tt) (omega arith) (lead_high _ c.if1.true)
+returns : tie.Need-returns-then-s-at-gt244
+returns c = fit_none 4 _ _ (lit< tt) (omega arith) (lead_high _ c.if-s-at-gt244.true)
 
-add-second-fits : tie.Need-overflow-add-second-fits
+add-second-fits : tie.Need-overflow_add-at
 add-second-fits c = search rules
 
-shared-slice-read-second-fits : tie.Need-shared-slice-read-second-fits
+shared-slice-read-second-fits : tie.Need-bounds-s-at-2
 shared-slice-read-second-fits c = search rules
 
-second-fits-requires : tie.Need-second-fits-requires
+second-fits-requires : tie.Need-second_fits-requires
 second-fits-requires c κs = search rules
 
-returns-2 : tie.Need-returns-2
-returns-2 c = fit-part (lit< tt) (begun _ _ (omega arith) (lead4 _ (omega arith) (omega arith))) c.before.second-fits.ensures c.if2.true
+returns-2 : tie.Need-returns-then-not-second_fits
+returns-2 c = fit-part (lit< tt) (begun _ _ (omega arith) (lead4 _ (omega arith) (omega arith))) c.second_fits.ensures c.if-not-second_fits.true-raw
 
-add-fits : tie.Need-overflow-add-fits
+add-fits : tie.Need-overflow_add-at-2
 add-fits c = search rules
 
 fits-requires : tie.Need-fits-requires
 fits-requires c κs = search rules
 
-returns-3 : tie.Need-returns-3
+returns-3 : tie.Need-returns-then-not-fits
 returns-3 c =
     fit-part (lit< tt)
-    (onto (begun _ _ (omega arith) (lead4 _ (omega arith) (omega arith))) c.before.before.before.second-fits.ensures c.before.before.if2.false)
-    c.before.fits2.ensures c.if3.true
+    (onto (begun _ _ (omega arith) (lead4 _ (omega arith) (omega arith))) c.second_fits.ensures c.if-not-second_fits.false-raw)
+    c.before.fits.ensures c.if-not-fits.true-raw
 
-add-fits-2 : tie.Need-overflow-add-fits-2
+add-fits-2 : tie.Need-overflow_add-at-3
 add-fits-2 c = search rules
 
 fits-requires-2 : tie.Need-fits-requires-2
 fits-requires-2 c κs = search rules
 
-returns-4 : tie.Need-returns-4
+returns-4 : tie.Need-returns-then-not-fits-2
 returns-4 c =
     fit-part (lit< tt)
-    (onto (onto (begun _ _ (omega arith) (lead4 _ (omega arith) (omega arith))) c.before.before.before.before.before.second-fits.ensures c.before.before.before.before.if2.false)
-    c.before.before.before.fits2.ensures c.before.before.if3.false)
-    c.before.fits3.ensures c.if4.true
+    (onto (onto (begun _ _ (omega arith) (lead4 _ (omega arith) (omega arith))) c.second_fits.ensures c.if-not-second_fits.false-raw)
+    c.before.before.before.fits.ensures c.if-not-fits.false-raw)
+    c.before.fits-2.ensures c.if-not-fits-2.true-raw
 
-returns-5 : tie.Need-returns-5
+returns-5 : tie.Need-returns
 returns-5 c =
     fit-whole
-    (onto (onto (begun _ _ (omega arith) (lead4 _ (omega arith) (omega arith))) c.before.before.before.before.before.second-fits.ensures c.before.before.before.before.if2.false)
-    c.before.before.before.fits2.ensures c.before.before.if3.false)
-    c.before.fits3.ensures c.if4.false
+    (onto (onto (begun _ _ (omega arith) (lead4 _ (omega arith) (omega arith))) c.second_fits.ensures c.if-not-second_fits.false-raw)
+    c.before.before.before.fits.ensures c.if-not-fits.false-raw)
+    c.before.fits-2.ensures c.if-not-fits-2.false-raw
 
-pub fit-four-spec : {M : Type 1} → statement M
-fit-four-spec =
+pub fit_four_spec : {M : Type 1} → statement M
+fit_four_spec =
     tie.close
     (tie.spec
     shared-slice-read-if1

@@ -8,38 +8,38 @@ use borrow.Author.Rules.{rules}
 use Rattle.utf8.proofs.fit_three.Statement.{statement}
 use Rattle.utf8.proofs.fit_three.Tie as tie
 
-add-second-fits : tie.Need-overflow-add-second-fits
+add-second-fits : tie.Need-overflow_add-at
 add-second-fits c = search rules
 
-shared-slice-read-second-fits : tie.Need-shared-slice-read-second-fits
+shared-slice-read-second-fits : tie.Need-bounds-s-at
 shared-slice-read-second-fits c = search rules
 
-second-fits-requires : tie.Need-second-fits-requires
+second-fits-requires : tie.Need-second_fits-requires
 second-fits-requires c κs = search rules
 
-returns : tie.Need-returns
-returns c = fit-part (lit< tt) (begun _ _ (omega arith) (lead3 _ (omega arith) (omega arith))) c.before.second-fits.ensures c.if1.true
+returns : tie.Need-returns-then-not-second_fits
+returns c = fit-part (lit< tt) (begun _ _ (omega arith) (lead3 _ (omega arith) (omega arith))) c.second_fits.ensures c.if-not-second_fits.true-raw
 
-add-fits : tie.Need-overflow-add-fits
+add-fits : tie.Need-overflow_add-at-2
 add-fits c = search rules
 
 fits-requires : tie.Need-fits-requires
 fits-requires c κs = search rules
 
-returns-2 : tie.Need-returns-2
+returns-2 : tie.Need-returns-then-not-fits
 returns-2 c =
     fit-part (lit< tt)
-    (onto (begun _ _ (omega arith) (lead3 _ (omega arith) (omega arith))) c.before.before.before.second-fits.ensures c.before.before.if1.false)
-    c.before.fits2.ensures c.if2.true
+    (onto (begun _ _ (omega arith) (lead3 _ (omega arith) (omega arith))) c.second_fits.ensures c.if-not-second_fits.false-raw)
+    c.before.fits.ensures c.if-not-fits.true-raw
 
-returns-3 : tie.Need-returns-3
+returns-3 : tie.Need-returns
 returns-3 c =
     fit-whole
-    (onto (begun _ _ (omega arith) (lead3 _ (omega arith) (omega arith))) c.before.before.before.second-fits.ensures c.before.before.if1.false)
-    c.before.fits2.ensures c.if2.false
+    (onto (begun _ _ (omega arith) (lead3 _ (omega arith) (omega arith))) c.second_fits.ensures c.if-not-second_fits.false-raw)
+    c.before.fits.ensures c.if-not-fits.false-raw
 
-pub fit-three-spec : {M : Type 1} → statement M
-fit-three-spec =
+pub fit_three_spec : {M : Type 1} → statement M
+fit_three_spec =
     tie.close
     (tie.spec
     add-second-fits

@@ -5,17 +5,17 @@ use borrow.Author.Rules.{rules}
 use Rattle.utf8.proofs.fits.Statement.{statement}
 use Rattle.utf8.proofs.fits.Tie as tie
 
-returns : tie.Need-returns
-returns c = takes-end _ _ _ _ c.if1.true
+returns : tie.Need-returns-then-s-at
+returns c = takes-end _ _ _ _ c.if-s-at.true
 
-shared-slice-read-b : tie.Need-shared-slice-read-b
+shared-slice-read-b : tie.Need-bounds-s-at
 shared-slice-read-b c = search rules
 
-returns-2 : tie.Need-returns-2
-returns-2 c = takes-below _ _ _ _ c.before.before.if1.false c.if2.true
+returns-2 : tie.Need-returns-then-b-lo
+returns-2 c = takes-below _ _ _ _ c.if-s-at.false c.if-b-lo.true
 
-returns-3 : tie.Need-returns-3
-returns-3 c = takes-to _ _ _ _ c.before.before.if1.false c.if2.false
+returns-3 : tie.Need-returns
+returns-3 c = takes-to _ _ _ _ c.if-s-at.false c.if-b-lo.false
 
-pub fits-spec : {M : Type 1} → statement M
-fits-spec = tie.close (tie.spec returns shared-slice-read-b returns-2 returns-3)
+pub fits_spec : {M : Type 1} → statement M
+fits_spec = tie.close (tie.spec returns shared-slice-read-b returns-2 returns-3)

@@ -6,17 +6,17 @@ use borrow.Author.Rules.{rules}
 use Rattle.utf8.proofs.front.Statement.{statement}
 use Rattle.utf8.proofs.front.Tie as tie
 
-shared-slice-read-if1 : tie.Need-shared-slice-read-if1
+shared-slice-read-if1 : tie.Need-bounds-s-0
 shared-slice-read-if1 c = search rules
 
 front64-requires : tie.Need-front64-requires
 front64-requires c κs = search rules
 
-returns : tie.Need-returns
+returns : tie.Need-returns-then-s-lt128
 returns c = front-runs 64 _ c.front64.ensures
 
-returns-2 : tie.Need-returns-2
+returns-2 : tie.Need-returns
 returns-2 c = stay _ 0 (omega arith)
 
-pub front-spec : {M : Type 1} → statement M
-front-spec = tie.close (tie.spec shared-slice-read-if1 front64-requires returns returns-2)
+pub front_spec : {M : Type 1} → statement M
+front_spec = tie.close (tie.spec shared-slice-read-if1 front64-requires returns returns-2)

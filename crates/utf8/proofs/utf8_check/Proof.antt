@@ -12,50 +12,50 @@ use borrow.Author.Rules.{rules}
 use Rattle.utf8.proofs.utf8_check.Statement.{statement}
 use Rattle.utf8.proofs.utf8_check.Tie as tie
 
-abbrev invariant-loop : tie.invariant-loop
+abbrev invariant-loop : tie.invariant-loop-i
 invariant-loop s i₀ i = Runs s 0 i
 
-abbrev decreases-loop : tie.decreases-loop
+abbrev decreases-loop : tie.decreases-loop-i
 decreases-loop s i₀ i = length s - i
 
 quick-requires : tie.Need-quick-requires invariant-loop decreases-loop
 quick-requires c κs = search rules
 
-enum-known-j : tie.Need-enum-known-j invariant-loop decreases-loop
+enum-known-j : tie.Need-enum_known-j invariant-loop decreases-loop
 enum-known-j c = search rules
 
-enum-known-p : tie.Need-enum-known-p invariant-loop decreases-loop
+enum-known-p : tie.Need-enum_known-p invariant-loop decreases-loop
 enum-known-p c = search rules
 
-returns : tie.Need-returns invariant-loop decreases-loop
-returns c = told (bad _) (stopped c.before.p.given.1 c.before.before.before.quick.ensures)
+returns : tie.Need-returns-in-Stop invariant-loop decreases-loop
+returns c = told (bad _) (stopped c.in-Stop.is c.quick.ensures)
 
-loop-holds : tie.Need-loop-init invariant-loop decreases-loop
-loop-holds c = (led c.before.j.given.1 c.before.before.before.quick.ensures).1
+loop-holds : tie.Need-loop-i-init invariant-loop decreases-loop
+loop-holds c = (led c.in-Next.is c.quick.ensures).1
 
-char-at-requires : tie.Need-char-at-requires invariant-loop decreases-loop
+char-at-requires : tie.Need-char_at-requires invariant-loop decreases-loop
 char-at-requires c κs = search rules
 
-enum-known-j-2 : tie.Need-enum-known-j-2 invariant-loop decreases-loop
+enum-known-j-2 : tie.Need-enum_known-j-in-Next-char_at invariant-loop decreases-loop
 enum-known-j-2 c = search rules
 
-loop-less : tie.Need-loop-smaller invariant-loop decreases-loop
-loop-less c = let w = led c.before.j2.given.1 c.before.before.before.char-at.ensures in omega (arith, w.0, w.1.within)
+loop-less : tie.Need-loop-i-smaller invariant-loop decreases-loop
+loop-less c = let w = led c.in-Next-char_at.is c.char_at.ensures in omega (arith, w.0, w.1.within)
 
-loop-again : tie.Need-loop-preserved invariant-loop decreases-loop
-loop-again c = then c.before.before.before.before.before.loop.invariant (led c.before.j2.given.1 c.before.before.before.char-at.ensures).1
+loop-again : tie.Need-loop-i-preserved invariant-loop decreases-loop
+loop-again c = then c.loop-i.invariant (led c.in-Next-char_at.is c.char_at.ensures).1
 
-enum-known-p-2 : tie.Need-enum-known-p-2 invariant-loop decreases-loop
+enum-known-p-2 : tie.Need-enum_known-p-in-Stop-char_at invariant-loop decreases-loop
 enum-known-p-2 c = search rules
 
-returns-2 : tie.Need-returns-2 invariant-loop decreases-loop
-returns-2 c = told (bad _) (c.before.before.before.before.before.loop.invariant.same ∙ stopped c.before.p2.given.1 c.before.before.before.char-at.ensures)
+returns-2 : tie.Need-returns-in-Stop-char_at invariant-loop decreases-loop
+returns-2 c = told (bad _) (c.loop-i.invariant.same ∙ stopped c.in-Stop-char_at.is c.char_at.ensures)
 
-returns-3 : tie.Need-returns-3 invariant-loop decreases-loop
-returns-3 c = told ok (c.before.loop.invariant.same ∙ out _ _ _ c.loop-test.false)
+returns-3 : tie.Need-returns invariant-loop decreases-loop
+returns-3 c = told ok (c.loop-i.invariant.same ∙ out _ _ _ c.loop-i-test.false)
 
-pub utf8-check-spec : {M : Type 1} → statement M
-utf8-check-spec =
+pub utf8_check_spec : {M : Type 1} → statement M
+utf8_check_spec =
     tie.close
     (tie.spec
     invariant-loop

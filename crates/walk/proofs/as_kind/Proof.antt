@@ -3,11 +3,9 @@
 use Rattle.walk.proofs.Cases.{same_kind}
 use Rattle.walk.proofs.as_kind.Statement.{statement}
 use Rattle.walk.proofs.as_kind.Tie as tie
-use Rattle.walk.proofs.as_kind.Reads as reads
-use Rattle.walk.proofs.as_kind.Lts as lts
 
 returns : tie.Need-returns
-returns c = same_kind _ c.before.requires
+returns c = same_kind _ c.requires
 
-pub as-kind-spec : {M : Type 1} → statement M
-as-kind-spec = tie.close (tie.spec returns)
+pub as_kind_spec : {M : Type 1} → statement M
+as_kind_spec = tie.close (tie.spec returns)

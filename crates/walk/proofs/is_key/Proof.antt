@@ -8,49 +8,46 @@ use Rattle.walk.proofs.Tested.{same_text}
 use borrow.Author.Rules.{rules}
 use Rattle.walk.proofs.is_key.Statement.{statement}
 use Rattle.walk.proofs.is_key.Tie as tie
-use Rattle.walk.proofs.is_key.Reads as reads
-use Rattle.walk.proofs.is_key.Lts as lts
-use Rattle.texts.proofs.is_text.Reads as is-text-reads
 
-mul_at : tie.Need-overflow-mul-at
+mul_at : tie.Need-overflow_mul-at
 mul_at c = search rules
 
-sub_at : tie.Need-overflow-sub-at
+sub_at : tie.Need-overflow_sub-at
 sub_at c = search rules
 
-add-if1 : tie.Need-overflow-add-if1
+add-if1 : tie.Need-overflow_add-at
 add-if1 c = search rules
 
-mul-if1 : tie.Need-overflow-mul-if1
+mul-if1 : tie.Need-offset_bounds-out-at
 mul-if1 c = search rules
 
-shared-slice-read-if1 : tie.Need-shared-slice-read-if1
+shared-slice-read-if1 : tie.Need-bounds-out-at
 shared-slice-read-if1 c = search rules
 
-add-if2 : tie.Need-overflow-add-if2
+add-if2 : tie.Need-overflow_add-at-then-out-at
 add-if2 c = search rules
 
-mul-if2 : tie.Need-overflow-mul-if2
+mul-if2 : tie.Need-offset_bounds-out-at-then-out-at
 mul-if2 c = search rules
 
-shared-slice-read-if2 : tie.Need-shared-slice-read-if2
+shared-slice-read-if2 : tie.Need-bounds-out-at-then-out-at
 shared-slice-read-if2 c = search rules
 
-returns : tie.Need-returns
+returns : tie.Need-returns-then-out-at-2
 returns c =
-    let a = c.before.before.before.before.before.before.before.before.args in
+    let a = c.args in
     let at = wide * a.n - wide in
     let o = a.out.now in
-    same_text a.doc.now (span (get_or o (at + 3) 0) (get_or o (at + 4) 0)) c.before.before.before.before.before.before.before.before.requires.key a.key (sym c.before.before.before.if1.true) (sym c.if2.true)
+    same_text a.doc.now (span (get_or o (at + 3) 0) (get_or o (at + 4) 0)) c.requires.key a.key (sym c.if-out-at.true) (sym c.if-out-at-2.true)
 
-is-text-requires : tie.Need-is-text-requires
+is-text-requires : tie.Need-is_text-requires
 is-text-requires c κs = search rules
 
-returns-2 : tie.Need-returns-2
+returns-2 : tie.Need-returns
 returns-2 c = search rules
 
-pub is-key-spec : {M : Type 1} → statement M
-is-key-spec =
+pub is_key_spec : {M : Type 1} → statement M
+is_key_spec =
     tie.close
     (tie.spec
     mul_at

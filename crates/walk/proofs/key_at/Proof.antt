@@ -8,94 +8,87 @@ use Rattle.walk.proofs.Cases.{offset-within, offset-is, length-within, length-is
 use borrow.Author.Rules.{rules}
 use Rattle.walk.proofs.key_at.Statement.{statement}
 use Rattle.walk.proofs.key_at.Tie as tie
-use Rattle.walk.proofs.key_at.Reads as reads
-use Rattle.walk.proofs.key_at.Lts as lts
-use Rattle.layout.proofs.Kind.header_size.Reads as header-size-reads
-use Rattle.layout.proofs.Kind.offset_size.Reads as offset-size-reads
-use Rattle.walk.proofs.as_kind.Reads as as-kind-reads
-use Rattle.walk.proofs.offset_at.Reads as offset-at-reads
-use Rattle.walk.proofs.pair_at.Reads as pair-at-reads
 
-as-kind-requires : tie.Need-as-kind-requires
+as-kind-requires : tie.Need-as_kind-k-requires
 as-kind-requires c κs = search rules
 
-cast-start : tie.Need-overflow-cast-start
+cast-start : tie.Need-overflow_cast-start
 cast-start c = search rules
 
-cast-end : tie.Need-overflow-cast-end
+cast-end : tie.Need-overflow_cast-end
 cast-end c = search rules
 
-add-end : tie.Need-overflow-add-end
+add-end : tie.Need-overflow_add-end
 add-end c = search rules
 
-offset-at-requires : tie.Need-offset-at-requires
-offset-at-requires c κs = offset-within c.before.before.before.before.args.doc.now c.before.before.before.before.args.v c.before.before.before.before.args.place c.before.before.before.before.requires.0 c.before.before.before.before.requires.1 c.before.before.as-kind.ensures
+offset-at-requires : tie.Need-offset_at-offset-requires
+offset-at-requires c κs = offset-within c.args.doc.now c.args.v c.args.place c.requires.0 c.requires.1 c.as_kind-k.ensures
 
-cast-offset : tie.Need-overflow-cast-offset
+cast-offset : tie.Need-overflow_cast-offset
 cast-offset c = search rules
 
-offset-size-requires : tie.Need-offset-size-requires
+offset-size-requires : tie.Need-offset_size-requires
 offset-size-requires c κs = search rules
 
-add-pair-at : tie.Need-overflow-add-pair-at
+add-pair-at : tie.Need-overflow_add-place
 add-pair-at c = search rules
 
-pair-at-requires : tie.Need-pair-at-requires
-pair-at-requires c κs = length-within c.before.before.before.before.before.before.args.doc.now c.before.before.before.before.before.before.args.v c.before.before.before.before.before.before.args.place c.before.before.before.before.before.before.requires.0 c.before.before.before.before.before.before.requires.1 c.before.before.before.before.as-kind.ensures c.offset-size.ensures.0
+pair-at-requires : tie.Need-pair_at-len-requires
+pair-at-requires c κs = length-within c.args.doc.now c.args.v c.args.place c.requires.0 c.requires.1 c.as_kind-k.ensures c.offset_size.ensures.0
 
-header-size-requires : tie.Need-header-size-requires
+header-size-requires : tie.Need-header_size-requires
 header-size-requires c κs = search rules
 
-returns : tie.Need-returns
+returns : tie.Need-returns-then-offset-header_size
 returns c =
-    let d = c.before.before.before.before.before.before.before.before.before.args.doc.now in
-    let v = c.before.before.before.before.before.before.before.before.before.args.v in
-    let p = c.before.before.before.before.before.before.before.before.before.args.place in
-    let k = c.before.before.before.before.before.before.before.as-kind.ensures in
-    let o = offset-is d v p c.before.before.before.before.before.before.before.before.before.requires.0 c.before.before.before.before.before.before.before.before.before.requires.1 k c.before.before.before.before.offset_at.ensures in
-    let w = c.before.before.before.offset-size.ensures.0 in
-    let l = length-is d v p c.before.before.before.before.before.before.before.before.before.requires.0 c.before.before.before.before.before.before.before.before.before.requires.1 k w c.before.before.pair-at.ensures.0 in
-    key-low d v p o (w ∙ ap offset_size k) l (c.before.header-size.ensures.0 ∙ ap (λ (x : Kind). header_size x v.count) k) c.if1.true
+    let d = c.args.doc.now in
+    let v = c.args.v in
+    let p = c.args.place in
+    let k = c.as_kind-k.ensures in
+    let o = offset-is d v p c.requires.0 c.requires.1 k c.offset_at-offset.ensures in
+    let w = c.offset_size.ensures.0 in
+    let l = length-is d v p c.requires.0 c.requires.1 k w c.pair_at-len.ensures.0 in
+    key-low d v p o (w ∙ ap offset_size k) l (c.header_size.ensures.0 ∙ ap (λ (x : Kind). header_size x v.count) k) c.if-offset-header_size.true
 
-cast-if2 : tie.Need-overflow-cast-if2
+cast-if2 : tie.Need-overflow_cast-v
 cast-if2 c = search rules
 
-cast-if2-2 : tie.Need-overflow-cast-if2-2
+cast-if2-2 : tie.Need-overflow_cast-len
 cast-if2-2 c = search rules
 
-add-if2 : tie.Need-overflow-add-if2
+add-if2 : tie.Need-overflow_add-offset
 add-if2 c = search rules
 
-returns-2 : tie.Need-returns-2
+returns-2 : tie.Need-returns-then-v-offset
 returns-2 c =
-    let d = c.before.before.before.before.before.before.before.before.before.before.before.args.doc.now in
-    let v = c.before.before.before.before.before.before.before.before.before.before.before.args.v in
-    let p = c.before.before.before.before.before.before.before.before.before.before.before.args.place in
-    let k = c.before.before.before.before.before.before.before.before.before.as-kind.ensures in
-    let o = offset-is d v p c.before.before.before.before.before.before.before.before.before.before.before.requires.0 c.before.before.before.before.before.before.before.before.before.before.before.requires.1 k c.before.before.before.before.before.before.offset_at.ensures in
-    let w = c.before.before.before.before.before.offset-size.ensures.0 in
-    let l = length-is d v p c.before.before.before.before.before.before.before.before.before.before.before.requires.0 c.before.before.before.before.before.before.before.before.before.before.before.requires.1 k w c.before.before.before.before.pair-at.ensures.0 in
-    key-over d v p o (w ∙ ap offset_size k) l (c.before.before.before.header-size.ensures.0 ∙ ap (λ (x : Kind). header_size x v.count) k) c.before.before.if1.false c.if2.true
+    let d = c.args.doc.now in
+    let v = c.args.v in
+    let p = c.args.place in
+    let k = c.as_kind-k.ensures in
+    let o = offset-is d v p c.requires.0 c.requires.1 k c.offset_at-offset.ensures in
+    let w = c.offset_size.ensures.0 in
+    let l = length-is d v p c.requires.0 c.requires.1 k w c.pair_at-len.ensures.0 in
+    key-over d v p o (w ∙ ap offset_size k) l (c.header_size.ensures.0 ∙ ap (λ (x : Kind). header_size x v.count) k) c.if-offset-header_size.false c.if-v-offset.true
 
-add-t11 : tie.Need-overflow-add-t11
+add-t11 : tie.Need-overflow_add-result
 add-t11 c = search rules
 
-cast-t10 : tie.Need-overflow-cast-t10
+cast-t10 : tie.Need-overflow_cast-result
 cast-t10 c = search rules
 
-returns-3 : tie.Need-returns-3
+returns-3 : tie.Need-returns
 returns-3 c =
-    let d = c.before.before.before.before.before.before.before.before.before.before.before.args.doc.now in
-    let v = c.before.before.before.before.before.before.before.before.before.before.before.args.v in
-    let p = c.before.before.before.before.before.before.before.before.before.before.before.args.place in
-    let k = c.before.before.before.before.before.before.before.before.before.as-kind.ensures in
-    let o = offset-is d v p c.before.before.before.before.before.before.before.before.before.before.before.requires.0 c.before.before.before.before.before.before.before.before.before.before.before.requires.1 k c.before.before.before.before.before.before.offset_at.ensures in
-    let w = c.before.before.before.before.before.offset-size.ensures.0 in
-    let l = length-is d v p c.before.before.before.before.before.before.before.before.before.before.before.requires.0 c.before.before.before.before.before.before.before.before.before.before.before.requires.1 k w c.before.before.before.before.pair-at.ensures.0 in
-    key-read d v p o (w ∙ ap offset_size k) l (c.before.before.before.header-size.ensures.0 ∙ ap (λ (x : Kind). header_size x v.count) k) c.before.before.if1.false c.if2.false
+    let d = c.args.doc.now in
+    let v = c.args.v in
+    let p = c.args.place in
+    let k = c.as_kind-k.ensures in
+    let o = offset-is d v p c.requires.0 c.requires.1 k c.offset_at-offset.ensures in
+    let w = c.offset_size.ensures.0 in
+    let l = length-is d v p c.requires.0 c.requires.1 k w c.pair_at-len.ensures.0 in
+    key-read d v p o (w ∙ ap offset_size k) l (c.header_size.ensures.0 ∙ ap (λ (x : Kind). header_size x v.count) k) c.if-offset-header_size.false c.if-v-offset.false
 
-pub key-at-spec : {M : Type 1} → statement M
-key-at-spec =
+pub key_at_spec : {M : Type 1} → statement M
+key_at_spec =
     tie.close
     (tie.spec
     as-kind-requires

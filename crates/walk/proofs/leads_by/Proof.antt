@@ -4,11 +4,11 @@ use Rattle.walk.proofs.Cases.{leads-object, leads-array}
 use Rattle.walk.proofs.leads_by.Statement.{statement}
 use Rattle.walk.proofs.leads_by.Tie as tie
 
-returns : tie.Need-returns
-returns c = leads-object _ c.if1.true
+returns : tie.Need-returns-then-k
+returns c = leads-object _ c.if-k.true
 
-returns-2 : tie.Need-returns-2
-returns-2 c = leads-array _ c.if1.false
+returns-2 : tie.Need-returns
+returns-2 c = leads-array _ c.if-k.false
 
-pub leads-by-spec : {M : Type 1} → statement M
-leads-by-spec = tie.close (tie.spec returns returns-2)
+pub leads_by_spec : {M : Type 1} → statement M
+leads_by_spec = tie.close (tie.spec returns returns-2)

@@ -10,81 +10,73 @@ use mathlib.Core.Path.{ap, ◌∙◌}
 use borrow.Author.Rules.{rules}
 use Rattle.walk.proofs.list_element.Statement.{statement}
 use Rattle.walk.proofs.list_element.Tie as tie
-use Rattle.walk.proofs.list_element.Reads as reads
-use Rattle.walk.proofs.list_element.Lts as lts
-use Rattle.layout.proofs.Kind.value_place.Reads as value-place-reads
-use Rattle.walk.proofs.as_kind.Reads as as-kind-reads
-use Rattle.walk.proofs.leads_at.Reads as leads-at-reads
-use Rattle.walk.proofs.list_entry.Reads as list-entry-reads
-use Rattle.walk.proofs.put_path.Reads as put-path-reads
-use Rattle.walk.proofs.stopped_by.Reads as stopped-by-reads
 
-as-kind-requires : tie.Need-as-kind-requires
+as-kind-requires : tie.Need-as_kind-k-requires
 as-kind-requires c κs = search rules
 
-cast-place : tie.Need-overflow-cast-place
+cast-place : tie.Need-overflow_cast-place
 cast-place c = search rules
 
-value-place-requires : tie.Need-value-place-requires
+value-place-requires : tie.Need-value_place-requires
 value-place-requires c κs = search rules
 
-add-place : tie.Need-overflow-add-place
+add-place : tie.Need-overflow_add-place
 add-place c = search rules
 
-list-entry-requires : tie.Need-list-entry-requires
+list-entry-requires : tie.Need-list_entry-code-requires
 list-entry-requires c κs = search rules
 
-stopped-by-requires : tie.Need-stopped-by-requires
+stopped-by-requires : tie.Need-stopped_by-requires
 stopped-by-requires c κs = search rules
 
-same_length : tie.Need-same-length
+same_length : tie.Need-shape_of-out-then-code-ne0
 same_length c = search rules
 
-returns : tie.Need-returns
+returns : tie.Need-returns-then-code-ne0
 returns c =
-    let a = c.before.before.before.before.before.before.before.before.before.before.before.args in
+    let a = c.args in
     let d = a.doc.now in
     let v = a.v in
-    let place = ap (λ (q : ℕ). v.start + q) (c.before.before.before.before.before.before.value-place.ensures.0 ∙ ap (λ (k : Kind). value_place k v.count a.i) c.before.before.before.before.before.before.before.before.as-kind.ensures) in
-    entry-stopped d v a.i a.depth a.parent a.out.now a.n (record { start = 0; len = 0 }) (element-key d v a.i c.before.before.before.before.before.before.before.before.before.before.before.requires.0) (no-key-text d) c.before.before.before.before.before.before.before.before.as-kind.ensures place c.before.before.before.before.list-entry.ensures.0 c.before.before.before.before.list-entry.ensures.1 c.before.if1.true c.Stopped-by.ensures
+    let place = ap (λ (q : ℕ). v.start + q) (c.value_place.ensures.0 ∙ ap (λ (k : Kind). value_place k v.count a.i) c.as_kind-k.ensures) in
+    entry-stopped d v a.i a.depth a.parent a.out.now a.n (record { start = 0; len = 0 }) (element-key d v a.i c.requires.0) (no-key-text d) c.as_kind-k.ensures place c.list_entry-code.ensures.0 c.list_entry-code.ensures.1 c.if-code-ne0.true c.stopped_by.ensures
 
-put-path-requires : tie.Need-put-path-requires
+put-path-requires : tie.Need-put_path-requires
 put-path-requires c κs =
-    let a = c.before.before.before.before.before.before.before.before.before.before.before.args in
+    let a = c.args in
     let d = a.doc.now in
     let v = a.v in
-    let place = ap (λ (q : ℕ). v.start + q) (c.before.before.before.before.before.before.value-place.ensures.0 ∙ ap (λ (k : Kind). value_place k v.count a.i) c.before.before.before.before.before.before.before.before.as-kind.ensures) in
-    entry-open d v a.i a.depth a.parent a.out.now a.n (record { start = 0; len = 0 }) (element-key d v a.i c.before.before.before.before.before.before.before.before.before.before.before.requires.0) (no-key-text d) c.before.before.before.before.before.before.before.before.as-kind.ensures place c.before.before.before.before.list-entry.ensures.0 c.before.before.before.before.list-entry.ensures.1 c.before.if1.false
+    let place = ap (λ (q : ℕ). v.start + q) (c.value_place.ensures.0 ∙ ap (λ (k : Kind). value_place k v.count a.i) c.as_kind-k.ensures) in
+    entry-open d v a.i a.depth a.parent a.out.now a.n (record { start = 0; len = 0 }) (element-key d v a.i c.requires.0) (no-key-text d) c.as_kind-k.ensures place c.list_entry-code.ensures.0 c.list_entry-code.ensures.1 c.if-code-ne0.false
 
-add-t12 : tie.Need-overflow-add-t12
+add-t12 : tie.Need-overflow_add-result
 add-t12 c =
-    let a = c.before.before.before.before.before.before.before.before.before.before.before.before.before.before.args in
+    let a = c.args in
     let d = a.doc.now in
     let v = a.v in
-    let place = ap (λ (q : ℕ). v.start + q) (c.before.before.before.before.before.before.before.before.before.value-place.ensures.0 ∙ ap (λ (k : Kind). value_place k v.count a.i) c.before.before.before.before.before.before.before.before.before.before.before.as-kind.ensures) in
-    omega (arith, entry-small d v a.i a.depth a.parent a.out.now a.n (record { start = 0; len = 0 }) (element-key d v a.i c.before.before.before.before.before.before.before.before.before.before.before.before.before.before.requires.0) (no-key-text d) c.before.before.before.before.before.before.before.before.before.before.before.as-kind.ensures place c.before.before.before.before.before.before.before.list-entry.ensures.0 c.before.before.before.before.before.before.before.list-entry.ensures.1 c.before.before.before.before.if1.false)
+    let place = ap (λ (q : ℕ). v.start + q) (c.value_place.ensures.0 ∙ ap (λ (k : Kind). value_place k v.count a.i) c.as_kind-k.ensures) in
+    omega (arith, entry-small d v a.i a.depth a.parent a.out.now a.n (record { start = 0; len = 0 }) (element-key d v a.i c.requires.0) (no-key-text d) c.as_kind-k.ensures place c.list_entry-code.ensures.0 c.list_entry-code.ensures.1 c.if-code-ne0.false)
 
-leads-at-requires : tie.Need-leads-at-requires
+leads-at-requires : tie.Need-leads_at-requires
 leads-at-requires c κs =
-    let a = c.before.before.before.before.before.before.before.before.before.before.before.before.before.before.before.args in
+    let a = c.args in
     let d = a.doc.now in
     let v = a.v in
-    let place = ap (λ (q : ℕ). v.start + q) (c.before.before.before.before.before.before.before.before.before.before.value-place.ensures.0 ∙ ap (λ (k : Kind). value_place k v.count a.i) c.before.before.before.before.before.before.before.before.before.before.before.before.as-kind.ensures) in
-    omega (arith, entry-open d v a.i a.depth a.parent a.out.now a.n (record { start = 0; len = 0 }) (element-key d v a.i c.before.before.before.before.before.before.before.before.before.before.before.before.before.before.before.requires.0) (no-key-text d) c.before.before.before.before.before.before.before.before.before.before.before.before.as-kind.ensures place c.before.before.before.before.before.before.before.before.list-entry.ensures.0 c.before.before.before.before.before.before.before.before.list-entry.ensures.1 c.before.before.before.before.before.if1.false, c.before.before.before.put-path.auto.0)
+    let place = ap (λ (q : ℕ). v.start + q) (c.value_place.ensures.0 ∙ ap (λ (k : Kind). value_place k v.count a.i) c.as_kind-k.ensures) in
+    omega (arith, entry-open d v a.i a.depth a.parent a.out.now a.n (record { start = 0; len = 0 }) (element-key d v a.i c.requires.0) (no-key-text d) c.as_kind-k.ensures place c.list_entry-code.ensures.0 c.list_entry-code.ensures.1 c.if-code-ne0.false, c.put_path.auto.out)
 
-same-length-2 : tie.Need-same-length-2
+same-length-2 : tie.Need-shape_of-out
 same-length-2 c = search rules
 
-returns-2 : tie.Need-returns-2
+returns-2 : tie.Need-returns
 returns-2 c =
-    let a = c.before.before.before.before.before.before.before.before.before.before.before.before.before.before.before.before.args in
+    let a = c.args in
     let d = a.doc.now in
     let v = a.v in
-    let place = ap (λ (q : ℕ). v.start + q) (c.before.before.before.before.before.before.before.before.before.before.before.value-place.ensures.0 ∙ ap (λ (k : Kind). value_place k v.count a.i) c.before.before.before.before.before.before.before.before.before.before.before.before.before.as-kind.ensures) in
-    entry_listed d v a.i a.depth a.parent a.out.now a.n (record { start = 0; len = 0 }) (element-key d v a.i c.before.before.before.before.before.before.before.before.before.before.before.before.before.before.before.before.requires.0) (no-key-text d) c.before.before.before.before.before.before.before.before.before.before.before.before.before.as-kind.ensures place c.before.before.before.before.before.before.before.before.before.list-entry.ensures.0 c.before.before.before.before.before.before.before.before.before.list-entry.ensures.1 c.before.before.before.before.before.before.if1.false c.before.before.before.before.put-path.ensures c.leads-at.ensures
+    let place = ap (λ (q : ℕ). v.start + q) (c.value_place.ensures.0 ∙ ap (λ (k : Kind). value_place k v.count a.i) c.as_kind-k.ensures) in
+    entry_listed d v a.i a.depth a.parent a.out.now a.n (record { start = 0; len = 0 }) (element-key d v a.i c.requires.0) (no-key-text d) c.as_kind-k.ensures place c.list_entry-code.ensures.0 c.list_entry-code.ensures.1 c.if-code-ne0.false c.put_path.ensures c.leads_at.ensures
 
-pub list-element-spec : {M : Type 1} → statement M
-list-element-spec =
+pub list_element_spec : {M : Type 1} → statement M
+list_element_spec =
     tie.close
     (tie.spec
     as-kind-requires

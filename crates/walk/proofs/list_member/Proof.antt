@@ -15,152 +15,139 @@ use mathlib.Core.Path.{sym, ap, subst, ◌∙◌}
 use borrow.Author.Rules.{rules}
 use Rattle.walk.proofs.list_member.Statement.{statement}
 use Rattle.walk.proofs.list_member.Tie as tie
-use Rattle.walk.proofs.list_member.Reads as reads
-use Rattle.walk.proofs.list_member.Lts as lts
-use Rattle.layout.proofs.Kind.key_place.Reads as key-place-reads
-use Rattle.layout.proofs.Kind.value_place.Reads as value-place-reads
-use Rattle.texts.proofs.break_or.Reads as break-or-reads
-use Rattle.walk.proofs.as_kind.Reads as as-kind-reads
-use Rattle.walk.proofs.is_key.Reads as is-key-reads
-use Rattle.walk.proofs.key_at.Reads as key-at-reads
-use Rattle.walk.proofs.leads_at.Reads as leads-at-reads
-use Rattle.walk.proofs.list_entry.Reads as list-entry-reads
-use Rattle.walk.proofs.put_path.Reads as put-path-reads
-use Rattle.walk.proofs.stopped.Reads as stopped-reads
-use Rattle.walk.proofs.stopped_by.Reads as stopped-by-reads
 
-as-kind-requires : tie.Need-as-kind-requires
+as-kind-requires : tie.Need-as_kind-k-requires
 as-kind-requires c κs = search rules
 
-cast-key-place : tie.Need-overflow-cast-key-place
+cast-key-place : tie.Need-overflow_cast-key_place
 cast-key-place c = search rules
 
-key-place-requires : tie.Need-key-place-requires
+key-place-requires : tie.Need-key_place-requires
 key-place-requires c κs = search rules
 
-add-key-place : tie.Need-overflow-add-key-place
+add-key-place : tie.Need-overflow_add-key_place
 add-key-place c = search rules
 
-key-at-requires : tie.Need-key-at-requires
+key-at-requires : tie.Need-key_at-requires
 key-at-requires c κs =
-    let a = c.before.before.before.before.before.args in
+    let a = c.args in
     let d = a.doc.now in
     let v = a.v in
-    let key-place = ap (λ (q : ℕ). v.start + q) (c.key-place.ensures.0 ∙ ap (λ (k : Kind). key_place k a.i) c.before.before.as-kind.ensures) in
-    (c.before.before.before.before.before.requires.0.0, subst (λ (q : ℕ). Within (length d) (q + key_entry v.kind) (end_of v)) (sym key-place) (key-within d v a.i c.before.before.before.before.before.requires.1.0 c.before.before.before.before.before.requires.1.1))
+    let key-place = ap (λ (q : ℕ). v.start + q) (c.key_place.ensures.0 ∙ ap (λ (k : Kind). key_place k a.i) c.as_kind-k.ensures) in
+    (c.requires.0.0, subst (λ (q : ℕ). Within (length d) (q + key_entry v.kind) (end_of v)) (sym key-place) (key-within d v a.i c.requires.1.0 c.requires.1.1))
 
-enum-known-key : tie.Need-enum-known-key
+enum-known-key : tie.Need-enum_known-key
 enum-known-key c = search rules
 
-is-key-requires : tie.Need-is-key-requires
+is-key-requires : tie.Need-is_key-requires
 is-key-requires c κs = search rules
 
-break-or-requires : tie.Need-break-or-requires
+break-or-requires : tie.Need-break_or-byte-requires
 break-or-requires c κs = search rules
 
 stopped-requires : tie.Need-stopped-requires
 stopped-requires c κs = search rules
 
-same_length : tie.Need-same-length
+same_length : tie.Need-shape_of-out-then-not-is_key
 same_length c = search rules
 
-returns : tie.Need-returns
+returns : tie.Need-returns-then-not-is_key
 returns c =
-    let a = c.before.before.before.before.before.before.before.before.before.before.before.before.before.before.args in
+    let a = c.args in
     let d = a.doc.now in
     let v = a.v in
-    let key-place = ap (λ (q : ℕ). v.start + q) (c.before.before.before.before.before.before.before.before.before.key-place.ensures.0 ∙ ap (λ (k : Kind). key_place k a.i) c.before.before.before.before.before.before.before.before.before.before.before.as-kind.ensures) in
-    let key = member-key d v a.i c.before.before.before.before.before.before.before.before.before.before.before.before.before.before.requires.1.0 c.before.before.before.before.before.before.before.before.before.before.before.before.before.before.requires.1.1 key-place c.before.before.before.before.before.before.before.before.key-at.ensures c.before.before.before.before.before.before.before.before.before.before.before.before.before.before.requires.0.0 in
-    key-bad d v a.i a.depth a.parent a.out.now a.n _ key _ c.before.before.before.before.before.before.key.given.1 c.before.before.before.is_key.ensures (not-true _ c.before.before.if1.true) c.before.break-or.ensures c.stopped.ensures
+    let key-place = ap (λ (q : ℕ). v.start + q) (c.key_place.ensures.0 ∙ ap (λ (k : Kind). key_place k a.i) c.as_kind-k.ensures) in
+    let key = member-key d v a.i c.requires.1.0 c.requires.1.1 key-place c.key_at.ensures c.requires.0.0 in
+    key-bad d v a.i a.depth a.parent a.out.now a.n _ key _ c.in-Bytes.is c.is_key.ensures (not-true _ c.if-not-is_key.true-raw) c.break_or-byte.ensures c.stopped.ensures
 
-cast-place : tie.Need-overflow-cast-place
+cast-place : tie.Need-overflow_cast-place
 cast-place c = search rules
 
-value-place-requires : tie.Need-value-place-requires
+value-place-requires : tie.Need-value_place-requires
 value-place-requires c κs = search rules
 
-add-place : tie.Need-overflow-add-place
+add-place : tie.Need-overflow_add-place
 add-place c = search rules
 
-list-entry-requires : tie.Need-list-entry-requires
+list-entry-requires : tie.Need-list_entry-code-requires
 list-entry-requires c κs = search rules
 
-stopped-by-requires : tie.Need-stopped-by-requires
+stopped-by-requires : tie.Need-stopped_by-requires
 stopped-by-requires c κs = search rules
 
-same-length-2 : tie.Need-same-length-2
+same-length-2 : tie.Need-shape_of-out-then-code-ne0
 same-length-2 c = search rules
 
-returns-2 : tie.Need-returns-2
+returns-2 : tie.Need-returns-then-code-ne0
 returns-2 c =
-    let a = c.before.before.before.before.before.before.before.before.before.before.before.before.before.before.before.before.before.before.before.before.args in
+    let a = c.args in
     let d = a.doc.now in
     let v = a.v in
-    let key-place = ap (λ (q : ℕ). v.start + q) (c.before.before.before.before.before.before.before.before.before.before.before.before.before.before.before.key-place.ensures.0 ∙ ap (λ (k : Kind). key_place k a.i) c.before.before.before.before.before.before.before.before.before.before.before.before.before.before.before.before.before.as-kind.ensures) in
-    let key = member-key d v a.i c.before.before.before.before.before.before.before.before.before.before.before.before.before.before.before.before.before.before.before.before.requires.1.0 c.before.before.before.before.before.before.before.before.before.before.before.before.before.before.before.before.before.before.before.before.requires.1.1 key-place c.before.before.before.before.before.before.before.before.before.before.before.before.before.before.key-at.ensures c.before.before.before.before.before.before.before.before.before.before.before.before.before.before.before.before.before.before.before.before.requires.0.0 in
-    let place = ap (λ (q : ℕ). v.start + q) (c.before.before.before.before.before.before.value-place.ensures.0 ∙ ap (λ (k : Kind). value_place k v.count a.i) c.before.before.before.before.before.before.before.before.before.before.before.before.before.before.before.before.before.as-kind.ensures) in
-    entry-stopped d v a.i a.depth a.parent a.out.now a.n _ (key ∙ ap part_said c.before.before.before.before.before.before.before.before.before.before.before.before.key.given.1) (valid-so _ (sym c.before.before.before.before.before.before.before.before.before.is_key.ensures ∙ not-false _ c.before.before.before.before.before.before.before.before.if1.false)) c.before.before.before.before.before.before.before.before.before.before.before.before.before.before.before.before.before.as-kind.ensures place c.before.before.before.before.list-entry.ensures.0 c.before.before.before.before.list-entry.ensures.1 c.before.if2.true c.Stopped-by.ensures
+    let key-place = ap (λ (q : ℕ). v.start + q) (c.key_place.ensures.0 ∙ ap (λ (k : Kind). key_place k a.i) c.as_kind-k.ensures) in
+    let key = member-key d v a.i c.requires.1.0 c.requires.1.1 key-place c.key_at.ensures c.requires.0.0 in
+    let place = ap (λ (q : ℕ). v.start + q) (c.value_place.ensures.0 ∙ ap (λ (k : Kind). value_place k v.count a.i) c.as_kind-k.ensures) in
+    entry-stopped d v a.i a.depth a.parent a.out.now a.n _ (key ∙ ap part_said c.in-Bytes.is) (valid-so _ (sym c.is_key.ensures ∙ not-false _ c.if-not-is_key.false-raw)) c.as_kind-k.ensures place c.list_entry-code.ensures.0 c.list_entry-code.ensures.1 c.if-code-ne0.true c.stopped_by.ensures
 
-put-path-requires : tie.Need-put-path-requires
+put-path-requires : tie.Need-put_path-requires
 put-path-requires c κs =
-    let a = c.before.before.before.before.before.before.before.before.before.before.before.before.before.before.before.before.before.before.before.before.args in
+    let a = c.args in
     let d = a.doc.now in
     let v = a.v in
-    let key-place = ap (λ (q : ℕ). v.start + q) (c.before.before.before.before.before.before.before.before.before.before.before.before.before.before.before.key-place.ensures.0 ∙ ap (λ (k : Kind). key_place k a.i) c.before.before.before.before.before.before.before.before.before.before.before.before.before.before.before.before.before.as-kind.ensures) in
-    let key = member-key d v a.i c.before.before.before.before.before.before.before.before.before.before.before.before.before.before.before.before.before.before.before.before.requires.1.0 c.before.before.before.before.before.before.before.before.before.before.before.before.before.before.before.before.before.before.before.before.requires.1.1 key-place c.before.before.before.before.before.before.before.before.before.before.before.before.before.before.key-at.ensures c.before.before.before.before.before.before.before.before.before.before.before.before.before.before.before.before.before.before.before.before.requires.0.0 in
-    let place = ap (λ (q : ℕ). v.start + q) (c.before.before.before.before.before.before.value-place.ensures.0 ∙ ap (λ (k : Kind). value_place k v.count a.i) c.before.before.before.before.before.before.before.before.before.before.before.before.before.before.before.before.before.as-kind.ensures) in
-    entry-open d v a.i a.depth a.parent a.out.now a.n _ (key ∙ ap part_said c.before.before.before.before.before.before.before.before.before.before.before.before.key.given.1) (valid-so _ (sym c.before.before.before.before.before.before.before.before.before.is_key.ensures ∙ not-false _ c.before.before.before.before.before.before.before.before.if1.false)) c.before.before.before.before.before.before.before.before.before.before.before.before.before.before.before.before.before.as-kind.ensures place c.before.before.before.before.list-entry.ensures.0 c.before.before.before.before.list-entry.ensures.1 c.before.if2.false
+    let key-place = ap (λ (q : ℕ). v.start + q) (c.key_place.ensures.0 ∙ ap (λ (k : Kind). key_place k a.i) c.as_kind-k.ensures) in
+    let key = member-key d v a.i c.requires.1.0 c.requires.1.1 key-place c.key_at.ensures c.requires.0.0 in
+    let place = ap (λ (q : ℕ). v.start + q) (c.value_place.ensures.0 ∙ ap (λ (k : Kind). value_place k v.count a.i) c.as_kind-k.ensures) in
+    entry-open d v a.i a.depth a.parent a.out.now a.n _ (key ∙ ap part_said c.in-Bytes.is) (valid-so _ (sym c.is_key.ensures ∙ not-false _ c.if-not-is_key.false-raw)) c.as_kind-k.ensures place c.list_entry-code.ensures.0 c.list_entry-code.ensures.1 c.if-code-ne0.false
 
-add-t25 : tie.Need-overflow-add-t25
+add-t25 : tie.Need-overflow_add-result
 add-t25 c =
-    let a = c.before.before.before.before.before.before.before.before.before.before.before.before.before.before.before.before.before.before.before.before.before.before.before.args in
+    let a = c.args in
     let d = a.doc.now in
     let v = a.v in
-    let key-place = ap (λ (q : ℕ). v.start + q) (c.before.before.before.before.before.before.before.before.before.before.before.before.before.before.before.before.before.before.key-place.ensures.0 ∙ ap (λ (k : Kind). key_place k a.i) c.before.before.before.before.before.before.before.before.before.before.before.before.before.before.before.before.before.before.before.before.as-kind.ensures) in
-    let key = member-key d v a.i c.before.before.before.before.before.before.before.before.before.before.before.before.before.before.before.before.before.before.before.before.before.before.before.requires.1.0 c.before.before.before.before.before.before.before.before.before.before.before.before.before.before.before.before.before.before.before.before.before.before.before.requires.1.1 key-place c.before.before.before.before.before.before.before.before.before.before.before.before.before.before.before.before.before.key-at.ensures c.before.before.before.before.before.before.before.before.before.before.before.before.before.before.before.before.before.before.before.before.before.before.before.requires.0.0 in
-    let place = ap (λ (q : ℕ). v.start + q) (c.before.before.before.before.before.before.before.before.before.value-place.ensures.0 ∙ ap (λ (k : Kind). value_place k v.count a.i) c.before.before.before.before.before.before.before.before.before.before.before.before.before.before.before.before.before.before.before.before.as-kind.ensures) in
-    omega (arith, entry-small d v a.i a.depth a.parent a.out.now a.n _ (key ∙ ap part_said c.before.before.before.before.before.before.before.before.before.before.before.before.before.before.before.key.given.1) (valid-so _ (sym c.before.before.before.before.before.before.before.before.before.before.before.before.is_key.ensures ∙ not-false _ c.before.before.before.before.before.before.before.before.before.before.before.if1.false)) c.before.before.before.before.before.before.before.before.before.before.before.before.before.before.before.before.before.before.before.before.as-kind.ensures place c.before.before.before.before.before.before.before.list-entry.ensures.0 c.before.before.before.before.before.before.before.list-entry.ensures.1 c.before.before.before.before.if2.false)
+    let key-place = ap (λ (q : ℕ). v.start + q) (c.key_place.ensures.0 ∙ ap (λ (k : Kind). key_place k a.i) c.as_kind-k.ensures) in
+    let key = member-key d v a.i c.requires.1.0 c.requires.1.1 key-place c.key_at.ensures c.requires.0.0 in
+    let place = ap (λ (q : ℕ). v.start + q) (c.value_place.ensures.0 ∙ ap (λ (k : Kind). value_place k v.count a.i) c.as_kind-k.ensures) in
+    omega (arith, entry-small d v a.i a.depth a.parent a.out.now a.n _ (key ∙ ap part_said c.in-Bytes.is) (valid-so _ (sym c.is_key.ensures ∙ not-false _ c.if-not-is_key.false-raw)) c.as_kind-k.ensures place c.list_entry-code.ensures.0 c.list_entry-code.ensures.1 c.if-code-ne0.false)
 
-leads-at-requires : tie.Need-leads-at-requires
+leads-at-requires : tie.Need-leads_at-requires
 leads-at-requires c κs =
-    let a = c.before.before.before.before.before.before.before.before.before.before.before.before.before.before.before.before.before.before.before.before.before.before.before.before.args in
+    let a = c.args in
     let d = a.doc.now in
     let v = a.v in
-    let key-place = ap (λ (q : ℕ). v.start + q) (c.before.before.before.before.before.before.before.before.before.before.before.before.before.before.before.before.before.before.before.key-place.ensures.0 ∙ ap (λ (k : Kind). key_place k a.i) c.before.before.before.before.before.before.before.before.before.before.before.before.before.before.before.before.before.before.before.before.before.as-kind.ensures) in
-    let key = member-key d v a.i c.before.before.before.before.before.before.before.before.before.before.before.before.before.before.before.before.before.before.before.before.before.before.before.before.requires.1.0 c.before.before.before.before.before.before.before.before.before.before.before.before.before.before.before.before.before.before.before.before.before.before.before.before.requires.1.1 key-place c.before.before.before.before.before.before.before.before.before.before.before.before.before.before.before.before.before.before.key-at.ensures c.before.before.before.before.before.before.before.before.before.before.before.before.before.before.before.before.before.before.before.before.before.before.before.before.requires.0.0 in
-    let place = ap (λ (q : ℕ). v.start + q) (c.before.before.before.before.before.before.before.before.before.before.value-place.ensures.0 ∙ ap (λ (k : Kind). value_place k v.count a.i) c.before.before.before.before.before.before.before.before.before.before.before.before.before.before.before.before.before.before.before.before.before.as-kind.ensures) in
-    omega (arith, entry-open d v a.i a.depth a.parent a.out.now a.n _ (key ∙ ap part_said c.before.before.before.before.before.before.before.before.before.before.before.before.before.before.before.before.key.given.1) (valid-so _ (sym c.before.before.before.before.before.before.before.before.before.before.before.before.before.is_key.ensures ∙ not-false _ c.before.before.before.before.before.before.before.before.before.before.before.before.if1.false)) c.before.before.before.before.before.before.before.before.before.before.before.before.before.before.before.before.before.before.before.before.before.as-kind.ensures place c.before.before.before.before.before.before.before.before.list-entry.ensures.0 c.before.before.before.before.before.before.before.before.list-entry.ensures.1 c.before.before.before.before.before.if2.false, c.before.before.before.put-path.auto.0)
+    let key-place = ap (λ (q : ℕ). v.start + q) (c.key_place.ensures.0 ∙ ap (λ (k : Kind). key_place k a.i) c.as_kind-k.ensures) in
+    let key = member-key d v a.i c.requires.1.0 c.requires.1.1 key-place c.key_at.ensures c.requires.0.0 in
+    let place = ap (λ (q : ℕ). v.start + q) (c.value_place.ensures.0 ∙ ap (λ (k : Kind). value_place k v.count a.i) c.as_kind-k.ensures) in
+    omega (arith, entry-open d v a.i a.depth a.parent a.out.now a.n _ (key ∙ ap part_said c.in-Bytes.is) (valid-so _ (sym c.is_key.ensures ∙ not-false _ c.if-not-is_key.false-raw)) c.as_kind-k.ensures place c.list_entry-code.ensures.0 c.list_entry-code.ensures.1 c.if-code-ne0.false, c.put_path.auto.out)
 
-enum-known-number : tie.Need-enum-known-number
+enum-known-number : tie.Need-enum_known-number
 enum-known-number c = search rules
 
-stopped-requires-2 : tie.Need-stopped-requires-2
+stopped-requires-2 : tie.Need-stopped-requires-in-Refused
 stopped-requires-2 c κs = search rules
 
-same-length-3 : tie.Need-same-length-3
+same-length-3 : tie.Need-shape_of-out
 same-length-3 c = search rules
 
-returns-3 : tie.Need-returns-3
+returns-3 : tie.Need-returns-else-code-ne0
 returns-3 c =
-    let a = c.before.before.before.before.before.before.before.before.before.before.before.before.before.before.before.before.before.before.before.before.before.before.before.before.before.args in
+    let a = c.args in
     let d = a.doc.now in
     let v = a.v in
-    let key-place = ap (λ (q : ℕ). v.start + q) (c.before.before.before.before.before.before.before.before.before.before.before.before.before.before.before.before.before.before.before.before.key-place.ensures.0 ∙ ap (λ (k : Kind). key_place k a.i) c.before.before.before.before.before.before.before.before.before.before.before.before.before.before.before.before.before.before.before.before.before.before.as-kind.ensures) in
-    let key = member-key d v a.i c.before.before.before.before.before.before.before.before.before.before.before.before.before.before.before.before.before.before.before.before.before.before.before.before.before.requires.1.0 c.before.before.before.before.before.before.before.before.before.before.before.before.before.before.before.before.before.before.before.before.before.before.before.before.before.requires.1.1 key-place c.before.before.before.before.before.before.before.before.before.before.before.before.before.before.before.before.before.before.before.key-at.ensures c.before.before.before.before.before.before.before.before.before.before.before.before.before.before.before.before.before.before.before.before.before.before.before.before.before.requires.0.0 in
-    let place = ap (λ (q : ℕ). v.start + q) (c.before.before.before.before.before.before.before.before.before.before.before.value-place.ensures.0 ∙ ap (λ (k : Kind). value_place k v.count a.i) c.before.before.before.before.before.before.before.before.before.before.before.before.before.before.before.before.before.before.before.before.before.before.as-kind.ensures) in
-    entry_listed d v a.i a.depth a.parent a.out.now a.n _ (key ∙ ap part_said c.before.before.before.before.before.before.before.before.before.before.before.before.before.before.before.before.before.key.given.1) (valid-so _ (sym c.before.before.before.before.before.before.before.before.before.before.before.before.before.before.is_key.ensures ∙ not-false _ c.before.before.before.before.before.before.before.before.before.before.before.before.before.if1.false)) c.before.before.before.before.before.before.before.before.before.before.before.before.before.before.before.before.before.before.before.before.before.before.as-kind.ensures place c.before.before.before.before.before.before.before.before.before.list-entry.ensures.0 c.before.before.before.before.before.before.before.before.before.list-entry.ensures.1 c.before.before.before.before.before.before.if2.false c.before.before.before.before.put-path.ensures c.leads-at.ensures
+    let key-place = ap (λ (q : ℕ). v.start + q) (c.key_place.ensures.0 ∙ ap (λ (k : Kind). key_place k a.i) c.as_kind-k.ensures) in
+    let key = member-key d v a.i c.requires.1.0 c.requires.1.1 key-place c.key_at.ensures c.requires.0.0 in
+    let place = ap (λ (q : ℕ). v.start + q) (c.value_place.ensures.0 ∙ ap (λ (k : Kind). value_place k v.count a.i) c.as_kind-k.ensures) in
+    entry_listed d v a.i a.depth a.parent a.out.now a.n _ (key ∙ ap part_said c.in-Bytes.is) (valid-so _ (sym c.is_key.ensures ∙ not-false _ c.if-not-is_key.false-raw)) c.as_kind-k.ensures place c.list_entry-code.ensures.0 c.list_entry-code.ensures.1 c.if-code-ne0.false c.put_path.ensures c.leads_at.ensures
 
-returns-4 : tie.Need-returns-4
+returns-4 : tie.Need-returns-in-Refused
 returns-4 c =
-    let a = c.before.before.before.before.before.before.before.before.before.before.args in
+    let a = c.args in
     let d = a.doc.now in
     let v = a.v in
-    let key-place = ap (λ (q : ℕ). v.start + q) (c.before.before.before.before.before.key-place.ensures.0 ∙ ap (λ (k : Kind). key_place k a.i) c.before.before.before.before.before.before.before.as-kind.ensures) in
-    let key = member-key d v a.i c.before.before.before.before.before.before.before.before.before.before.requires.1.0 c.before.before.before.before.before.before.before.before.before.before.requires.1.1 key-place c.before.before.before.before.key-at.ensures c.before.before.before.before.before.before.before.before.before.before.requires.0.0 in
-    key-refused d v a.i a.depth a.parent a.out.now a.n _ key key-place c.before.before.number.given.1 c.stopped2.ensures
+    let key-place = ap (λ (q : ℕ). v.start + q) (c.key_place.ensures.0 ∙ ap (λ (k : Kind). key_place k a.i) c.as_kind-k.ensures) in
+    let key = member-key d v a.i c.requires.1.0 c.requires.1.1 key-place c.key_at.ensures c.requires.0.0 in
+    key-refused d v a.i a.depth a.parent a.out.now a.n _ key key-place c.in-Refused.is c.stopped-in-Refused.ensures
 
-pub list-member-spec : {M : Type 1} → statement M
-list-member-spec =
+pub list_member_spec : {M : Type 1} → statement M
+list_member_spec =
     tie.close
     (tie.spec
     as-kind-requires

@@ -12,10 +12,10 @@ use Rattle.writing.proofs.put_byte.Tie as tie
 low-requires : tie.Need-low-requires
 low-requires c κs = search rules
 
-slice-write-out : tie.Need-slice-write-out
+slice-write-out : tie.Need-bounds-out-at
 slice-write-out c = search rules
 
-same_length : tie.Need-same-length
+same_length : tie.Need-shape_of-out
 same_length c = search rules
 
 returns : tie.Need-returns
@@ -24,5 +24,5 @@ returns c =
     let s = c.before.before in
     ap (λ (n : ℕ). set s.args.out.now s.args.at n) c.low.ensures ∙ laid-byte s.args.out.now s.args.at (s.args.x % 256) s.requires
 
-pub put-byte-spec : {M : Type 1} → statement M
-put-byte-spec = tie.close (tie.spec low-requires slice-write-out same_length returns)
+pub put_byte_spec : {M : Type 1} → statement M
+put_byte_spec = tie.close (tie.spec low-requires slice-write-out same_length returns)

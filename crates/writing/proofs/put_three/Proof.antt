@@ -11,16 +11,16 @@ use borrow.Author.Rules.{rules}
 use Rattle.writing.proofs.put_three.Statement.{statement}
 use Rattle.writing.proofs.put_three.Tie as tie
 
-add-put-byte : tie.Need-overflow-add-put-byte
+add-put-byte : tie.Need-overflow_add-at
 add-put-byte c = search rules
 
-put-byte-requires : tie.Need-put-byte-requires
+put-byte-requires : tie.Need-put_byte-requires
 put-byte-requires c κs = search rules
 
-put-two-requires : tie.Need-put-two-requires
+put-two-requires : tie.Need-put_two-requires
 put-two-requires c κs = search rules
 
-same_length : tie.Need-same-length
+same_length : tie.Need-shape_of-out
 same_length c = search rules
 
 returns : tie.Need-returns
@@ -30,6 +30,6 @@ returns c =
     ∙ ap (λ (l : List ℕ). laid_at l a.at 2 (digits 256 2 (a.x / 256))) c.before.before.before.before.before.before.put_byte.ensures
     ∙ digit-before 256 2 a.out.now a.at a.x (omega arith)
 
-pub put-three-spec : {M : Type 1} → statement M
-put-three-spec =
+pub put_three_spec : {M : Type 1} → statement M
+put_three_spec =
     tie.close (tie.spec add-put-byte put-byte-requires put-two-requires same_length returns)

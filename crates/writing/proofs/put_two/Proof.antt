@@ -11,25 +11,25 @@ use borrow.Author.Rules.{rules}
 use Rattle.writing.proofs.put_two.Statement.{statement}
 use Rattle.writing.proofs.put_two.Tie as tie
 
-add-put-byte : tie.Need-overflow-add-put-byte
+add-put-byte : tie.Need-overflow_add-at
 add-put-byte c = search rules
 
-put-byte-requires : tie.Need-put-byte-requires
+put-byte-requires : tie.Need-put_byte-requires
 put-byte-requires c κs = search rules
 
-put-byte-requires-2 : tie.Need-put-byte-requires-2
+put-byte-requires-2 : tie.Need-put_byte-requires-2
 put-byte-requires-2 c κs = search rules
 
-same_length : tie.Need-same-length
+same_length : tie.Need-shape_of-out
 same_length c = search rules
 
 returns : tie.Need-returns
 returns c =
     let a = c.before.before.before.before.before.before.before.before.before.args in
-    c.before.before.put-byte2.ensures
+    c.before.before.put_byte-2.ensures
     ∙ ap (λ (l : List ℕ). laid_at l a.at 1 (digits 256 1 (a.x / 256))) c.before.before.before.before.before.before.put_byte.ensures
     ∙ digit-before 256 1 a.out.now a.at a.x (omega arith)
 
-pub put-two-spec : {M : Type 1} → statement M
-put-two-spec =
+pub put_two_spec : {M : Type 1} → statement M
+put_two_spec =
     tie.close (tie.spec add-put-byte put-byte-requires put-byte-requires-2 same_length returns)

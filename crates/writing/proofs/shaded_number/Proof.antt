@@ -6,16 +6,16 @@ use borrow.Author.Rules.{rules}
 use Rattle.writing.proofs.shaded_number.Statement.{statement}
 use Rattle.writing.proofs.shaded_number.Tie as tie
 
-sub-result : tie.Need-overflow-sub-result
+sub-result : tie.Need-overflow_sub-result
 sub-result c = search rules
 
-returns : tie.Need-returns
+returns : tie.Need-returns-then-inverted
 unfolding shade
-returns c = sym (simp c.if1.true)
+returns c = sym (simp c.if-inverted.true)
 
-returns-2 : tie.Need-returns-2
+returns-2 : tie.Need-returns-else-inverted
 unfolding shade
-returns-2 c = sym (simp c.if1.false)
+returns-2 c = sym (simp c.if-inverted.false)
 
-pub shaded-number-spec : {M : Type 1} → statement M
-shaded-number-spec = tie.close (tie.spec sub-result returns returns-2)
+pub shaded_number_spec : {M : Type 1} → statement M
+shaded_number_spec = tie.close (tie.spec sub-result returns returns-2)

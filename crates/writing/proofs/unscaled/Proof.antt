@@ -8,13 +8,13 @@ use borrow.Author.Rules.{rules}
 use Rattle.writing.proofs.unscaled.Statement.{statement}
 use Rattle.writing.proofs.unscaled.Tie as tie
 
-sub-power : tie.Need-overflow-sub-power
+sub-power : tie.Need-overflow_sub-d
 sub-power c = search rules
 
 power-requires : tie.Need-power-requires
 power-requires c κs = search rules
 
-div-result : tie.Need-nonzero-div-result
+div-result : tie.Need-nonzero_div-result
 div-result c = let d = 9 - c.before.args.d in rw (c.power.ensures, power-is d (omega arith)) (pow-pos10 d)
 
 returns : tie.Need-returns
@@ -22,5 +22,5 @@ returns c =
     let a = c.before.args in
     ap (λ (n : ℕ). a.g / n) (c.power.ensures ∙ power-is (9 - a.d) (omega arith))
 
-pub unscaled-spec : {M : Type 1} → statement M
-unscaled-spec = tie.close (tie.spec sub-power power-requires div-result returns)
+pub unscaled_spec : {M : Type 1} → statement M
+unscaled_spec = tie.close (tie.spec sub-power power-requires div-result returns)

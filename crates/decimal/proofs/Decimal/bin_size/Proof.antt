@@ -12,28 +12,28 @@ use borrow.Author.Rules.{rules}
 use Rattle.decimal.proofs.Decimal.bin_size.Statement.{statement}
 use Rattle.decimal.proofs.Decimal.bin_size.Tie as tie
 
-well : (c : tie.Else1) → is_well c.before.before.before.before.args.self ≡ true
-well c = sym c.before.well-formed-2.ensures ∙ not-false c.before.well-formed-2.result c.if1.false
+well : (c : tie.Else-not-well_formed) → is_well c.before.before.before.before.args.self ≡ true
+well c = sym c.before.well_formed-2.ensures ∙ not-false c.before.well_formed-2.result c.if-not-well_formed.false-raw
 
-well-formed-requires : tie.Need-well-formed-requires
+well-formed-requires : tie.Need-well_formed-requires
 well-formed-requires c κs = search rules
 
-returns : tie.Need-returns
+returns : tie.Need-returns-then-not-well_formed
 unfolding bin_size
-returns c = sym (simp (sym c.before.well-formed-2.ensures ∙ not-true c.before.well-formed-2.result c.if1.true))
+returns c = sym (simp (sym c.before.well_formed-2.ensures ∙ not-true c.before.well_formed-2.result c.if-not-well_formed.true-raw))
 
-add-size : tie.Need-overflow-add-size
+add-size : tie.Need-overflow_add-self
 add-size c = let h = well-digits _ _ _ (formed-groups _ _ _ _ (well c.before)) in omega arith
 
 size-requires : tie.Need-size-requires
 size-requires c κs = search rules
 
-returns-2 : tie.Need-returns-2
+returns-2 : tie.Need-returns
 unfolding bin_size
 returns-2 c =
     let w = well c.before.before in
     let d = c.before.before.before.before.before.before.args.self in
     c.size.ensures ∙ well-size d.intg d.frac d.groups (formed-groups _ _ _ _ w) ∙ sym (simp w)
 
-pub bin-size-spec : {M : Type 1} → statement M
-bin-size-spec = tie.close (tie.spec well-formed-requires returns add-size size-requires returns-2)
+pub bin_size_spec : {M : Type 1} → statement M
+bin_size_spec = tie.close (tie.spec well-formed-requires returns add-size size-requires returns-2)

@@ -13,5 +13,5 @@ returns : tie.Need-returns
 unfolding fields_told value compare_told
 returns c = c.compare.ensures
 
-pub compare-spec : {M : Type 1} → statement M
-compare-spec = tie.close (tie.spec compare-requires returns)
+pub compare_spec : {M : Type 1} → statement M
+compare_spec = tie.close (tie.spec compare-requires returns)

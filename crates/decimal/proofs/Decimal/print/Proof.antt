@@ -9,12 +9,12 @@ use Rattle.decimal.proofs.Decimal.print.Tie as tie
 print-requires : tie.Need-print-requires
 print-requires c κs = search rules
 
-same_length : tie.Need-same-length
+same_length : tie.Need-shape_of-out
 same_length c = search rules
 
 returns : tie.Need-returns
 unfolding groups_told groups_leave print_told print_leaves printed
 returns c = c.before.before.print.ensures
 
-pub print-spec : {M : Type 1} → statement M
-print-spec = tie.close (tie.spec print-requires same_length returns)
+pub print_spec : {M : Type 1} → statement M
+print_spec = tie.close (tie.spec print-requires same_length returns)

@@ -7,26 +7,26 @@ use borrow.Author.Rules.{rules}
 use Rattle.decimal.proofs.reader.finish.Statement.{statement}
 use Rattle.decimal.proofs.reader.finish.Tie as tie
 
-or-nought-requires : tie.Need-or-nought-requires
+or-nought-requires : tie.Need-or_nought-requires
 or-nought-requires c κs = search rules
 
-returns : tie.Need-returns
+returns : tie.Need-returns-then-keep
 unfolding finished
-returns c = c.or-nought.ensures ∙ sym (simp c.before.if1.true)
+returns c = c.or_nought.ensures ∙ sym (simp c.before.if-keep.true)
 
-without-leading-requires : tie.Need-without-leading-requires
+without-leading-requires : tie.Need-without_leading-k-requires
 without-leading-requires c κs = search rules
 
-or-nought-requires-2 : tie.Need-or-nought-requires-2
+or-nought-requires-2 : tie.Need-or_nought-requires-2
 or-nought-requires-2 c κs = search rules
 
-returns-2 : tie.Need-returns-2
+returns-2 : tie.Need-returns
 unfolding finished
 returns-2 c =
     let a = c.before.before.before.before.args in
-    c.or-nought2.ensures
-    ∙ ap (λ (k : Kept). or_nought k.intg a.frac a.negative k.groups) c.before.before.without-leading.ensures
-    ∙ sym (simp c.before.before.before.if1.false)
+    c.or_nought-2.ensures
+    ∙ ap (λ (k : Kept). or_nought k.intg a.frac a.negative k.groups) c.before.before.without_leading-k.ensures
+    ∙ sym (simp c.before.before.before.if-keep.false)
 
 pub finish_spec : {M : Type 1} → statement M
 finish_spec =

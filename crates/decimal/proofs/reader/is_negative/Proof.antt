@@ -6,14 +6,14 @@ use borrow.Author.Rules.{rules}
 use Rattle.decimal.proofs.reader.is_negative.Statement.{statement}
 use Rattle.decimal.proofs.reader.is_negative.Tie as tie
 
-returns : tie.Need-returns
-returns c = sym (negative-none c.before.args.bytes.now c.if1.true)
+returns : tie.Need-returns-then-bytes-eq0
+returns c = sym (negative-none c.before.args.bytes.now c.if-bytes-eq0.true)
 
-shared-slice-read-result : tie.Need-shared-slice-read-result
+shared-slice-read-result : tie.Need-bounds-bytes-0
 shared-slice-read-result c = search rules
 
-returns-2 : tie.Need-returns-2
-returns-2 c = sym (negative-some c.before.before.args.bytes.now c.before.if1.false)
+returns-2 : tie.Need-returns
+returns-2 c = sym (negative-some c.before.before.args.bytes.now c.before.if-bytes-eq0.false)
 
-pub is-negative-spec : {M : Type 1} → statement M
-is-negative-spec = tie.close (tie.spec returns shared-slice-read-result returns-2)
+pub is_negative_spec : {M : Type 1} → statement M
+is_negative_spec = tie.close (tie.spec returns shared-slice-read-result returns-2)

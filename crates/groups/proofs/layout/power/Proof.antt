@@ -7,16 +7,16 @@ use Rattle.groups.specs.Layout.{power_of}
 use Rattle.groups.proofs.layout.power.Statement.{statement}
 use Rattle.groups.proofs.layout.power.Tie as tie
 
-power-of-requires : tie.Need-power-of-requires
+power-of-requires : tie.Need-power_of-requires
 power-of-requires c κs = search rules
 
-returns : tie.Need-returns
+returns : tie.Need-returns-then-d-le9
 unfolding power_of
-returns c = c.power-of.ensures.0 ∙ sym (simp (le-leb _ _ c.before.if1.true))
+returns c = c.power_of.ensures.0 ∙ sym (simp (le-leb _ _ c.before.if-d-le9.true))
 
-returns-2 : tie.Need-returns-2
+returns-2 : tie.Need-returns-else-d-le9
 unfolding power_of
-returns-2 c = sym (simp (lt-leb _ _ c.if1.false))
+returns-2 c = sym (simp (lt-leb _ _ c.if-d-le9.false))
 
-pub power-spec : {M : Type 1} → statement M
-power-spec = tie.close (tie.spec power-of-requires returns returns-2)
+pub power_spec : {M : Type 1} → statement M
+power_spec = tie.close (tie.spec power-of-requires returns returns-2)

@@ -12,10 +12,10 @@ use Rattle.groups.proofs.layout.power_of.Tie as tie
 abbrev table : List ℕ
 table = 1 ∷ 10 ∷ 100 ∷ 1000 ∷ 10000 ∷ 100000 ∷ 1000000 ∷ 10000000 ∷ 100000000 ∷ 1000000000 ∷ []
 
-mul-result : tie.Need-overflow-mul-result
+mul-result : tie.Need-offset_bounds-d
 mul-result c = search rules
 
-array-read-result : tie.Need-array-read-result
+array-read-result : tie.Need-bounds-d
 array-read-result c = search rules
 
 returns : tie.Need-returns
@@ -25,5 +25,5 @@ returns c =
       (leb→le _ _ (at (λ k. leb (get_or table k 0) 1000000000) 10 tt t (search rules)), leb→le _ _ (at (λ k. leb 1 (get_or table k 0)) 10 tt t (search rules))),
     )
 
-pub power-of-spec : {M : Type 1} → statement M
-power-of-spec = tie.close (tie.spec mul-result array-read-result returns)
+pub power_of_spec : {M : Type 1} → statement M
+power_of_spec = tie.close (tie.spec mul-result array-read-result returns)

@@ -5,16 +5,16 @@ use Rattle.groups.specs.Layout.{width}
 use Rattle.groups.proofs.layout.width_of.Statement.{statement}
 use Rattle.groups.proofs.layout.width_of.Tie as tie
 
-add_half : tie.Need-overflow-add-half
+add_half : tie.Need-overflow_add-half
 add_half c = search rules
 
-returns : tie.Need-returns
+returns : tie.Need-returns-then-half-lt4
 unfolding width
 returns c = search rules
 
-returns-2 : tie.Need-returns-2
+returns-2 : tie.Need-returns-else-half-lt4
 unfolding width
 returns-2 c = search rules
 
-pub width-of-spec : {M : Type 1} → statement M
-width-of-spec = tie.close (tie.spec add_half returns returns-2)
+pub width_of_spec : {M : Type 1} → statement M
+width_of_spec = tie.close (tie.spec add_half returns returns-2)

@@ -9,46 +9,46 @@ use borrow.Author.Rules.{rules}
 use Rattle.jsonb.proofs.root.deserialize.Statement.{statement}
 use Rattle.jsonb.proofs.root.deserialize.Tie as tie
 
-returns : tie.Need-returns
+returns : tie.Need-returns-then-n-gt16777216
 unfolding root_read
-returns c = yes _ (lt-ltb _ _ c.if1.true) refl
+returns c = yes _ (lt-ltb _ _ c.if-n-gt16777216.true) refl
 
-returns-2 : tie.Need-returns-2
+returns-2 : tie.Need-returns-then-n-eq0
 unfolding root_read
-returns-2 c = no _ (le-ltb _ _ c.before.if1.false) (yes _ (eq-eqb _ _ c.if2.true) refl)
+returns-2 c = no _ (le-ltb _ _ c.if-n-gt16777216.false) (yes _ (eq-eqb _ _ c.if-n-eq0.true) refl)
 
-shared-slice-read-of : tie.Need-shared-slice-read-of
+shared-slice-read-of : tie.Need-bounds-doc-0
 shared-slice-read-of c = search rules
 
 of-requires : tie.Need-of-requires
 of-requires c κs = search rules
 
-enum-known-t : tie.Need-enum-known-t
+enum-known-t : tie.Need-enum_known-t
 enum-known-t c = search rules
 
-value-at-requires : tie.Need-value-at-requires
+value-at-requires : tie.Need-value_at-requires
 value-at-requires c κs = search rules
 
-enum-known-r : tie.Need-enum-known-r
+enum-known-r : tie.Need-enum_known-r
 enum-known-r c = search rules
 
-returns-3 : tie.Need-returns-3
+returns-3 : tie.Need-returns-in-Known
 unfolding root_read
 returns-3 c =
-    no _ (le-ltb _ _ c.before.before.before.before.before.before.before.if1.false)
-    (no _ (ne_eqb _ _ c.before.before.before.before.before.before.if2.false)
-    (c.value-at.ensures ∙ root_is _ c.before.before.before.before.of.ensures c.before.before.t.given.1))
+    no _ (le-ltb _ _ c.if-n-gt16777216.false)
+    (no _ (ne_eqb _ _ c.if-n-eq0.false)
+    (c.value_at.ensures ∙ root_is _ c.of.ensures c.in-Known.is))
 
-returns-4 : tie.Need-returns-4
+returns-4 : tie.Need-returns-in-Refused
 unfolding root_read
 returns-4 c =
-    no _ (le-ltb _ _ c.before.before.before.before.before.before.if1.false)
-    (no _ (ne_eqb _ _ c.before.before.before.before.before.if2.false)
-    (root_is c.before.before.before.before.before.before.before.before.args.doc.now c.before.before.before.of.ensures
-    c.before.r.given.1))
+    no _ (le-ltb _ _ c.if-n-gt16777216.false)
+    (no _ (ne_eqb _ _ c.if-n-eq0.false)
+    (root_is c.args.doc.now c.of.ensures
+    c.in-Refused.is))
 
-pub deserialize-spec : {M : Type 1} → statement M
-deserialize-spec =
+pub deserialize_spec : {M : Type 1} → statement M
+deserialize_spec =
     tie.close
     (tie.spec
     returns

@@ -8,20 +8,20 @@ use borrow.Author.Rules.{rules}
 use Rattle.jsonb.proofs.views.element_count.Statement.{statement}
 use Rattle.jsonb.proofs.views.element_count.Tie as tie
 
-returns : tie.Need-returns
+returns : tie.Need-returns-then-doc-gt16777216
 unfolding count_at
-returns c = yes _ (lt-ltb _ _ c.if1.true) refl
+returns c = yes _ (lt-ltb _ _ c.if-doc-gt16777216.true) refl
 
-is-whole-requires : tie.Need-is-whole-requires
+is-whole-requires : tie.Need-is_whole-requires
 is-whole-requires c κs = search rules
 
-returns-2 : tie.Need-returns-2
+returns-2 : tie.Need-returns-then-is_whole
 unfolding count_at
-returns-2 c = no _ (le-ltb _ _ c.before.before.if1.false) (yes _ (sym c.before.is_whole.ensures ∙ c.if2.true) refl)
+returns-2 c = no _ (le-ltb _ _ c.if-doc-gt16777216.false) (yes _ (sym c.is_whole.ensures ∙ c.if-is_whole.true) refl)
 
-returns-3 : tie.Need-returns-3
+returns-3 : tie.Need-returns
 unfolding count_at
-returns-3 c = no _ (le-ltb _ _ c.before.before.if1.false) (no _ (sym c.before.is_whole.ensures ∙ c.if2.false) refl)
+returns-3 c = no _ (le-ltb _ _ c.if-doc-gt16777216.false) (no _ (sym c.is_whole.ensures ∙ c.if-is_whole.false) refl)
 
-pub element-count-spec : {M : Type 1} → statement M
-element-count-spec = tie.close (tie.spec returns is-whole-requires returns-2 returns-3)
+pub element_count_spec : {M : Type 1} → statement M
+element_count_spec = tie.close (tie.spec returns is-whole-requires returns-2 returns-3)

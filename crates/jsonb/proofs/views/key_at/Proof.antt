@@ -8,40 +8,40 @@ use borrow.Author.Rules.{rules}
 use Rattle.jsonb.proofs.views.key_at.Statement.{statement}
 use Rattle.jsonb.proofs.views.key_at.Tie as tie
 
-gate-at-requires : tie.Need-gate-at-requires
+gate-at-requires : tie.Need-gate_at-requires
 gate-at-requires c κs = search rules
 
-enum_told : tie.Need-enum-told
+enum_told : tie.Need-enum_told-1
 enum_told c = search rules
 
-read-key-requires : tie.Need-read-key-requires
+read-key-requires : tie.Need-read_key-requires
 read-key-requires c κs = search rules
 
-key-of-requires : tie.Need-key-of-requires
+key-of-requires : tie.Need-key_of-requires
 key-of-requires c κs = search rules
 
-enum-told-2 : tie.Need-enum-told-2
+enum-told-2 : tie.Need-enum_told-in-Nothing
 enum-told-2 c = search rules
 
-enum-known-n : tie.Need-enum-known-n
+enum-known-n : tie.Need-enum_known-n
 enum-known-n c = search rules
 
-returns : tie.Need-returns
+returns : tie.Need-returns-in-Open
 unfolding key_at
 returns c =
-    c.key_of.ensures ∙ ap part_said (c.before.read-key.ensures ∙ whole-key _ _ _ (open-whole _ _ _ _ c.before.before.before.before.gate-at.ensures c.before.before.enum_told.given.1))
-    ∙ said _ _ _ _ c.before.before.before.before.gate-at.ensures c.before.before.enum_told.given.1 _
+    c.key_of.ensures ∙ ap part_said (c.read_key.ensures ∙ whole-key _ _ _ (open-whole _ _ _ _ c.gate_at.ensures c.in-Open.is))
+    ∙ said _ _ _ _ c.gate_at.ensures c.in-Open.is _
 
-returns-2 : tie.Need-returns-2
+returns-2 : tie.Need-returns-in-Nothing
 unfolding key_at
-returns-2 c = said _ _ _ _ c.before.before.gate-at.ensures c.enum-told2.given.1 _
+returns-2 c = said _ _ _ _ c.gate_at.ensures c.in-Nothing.is _
 
-returns-3 : tie.Need-returns-3
+returns-3 : tie.Need-returns-in-Refused
 unfolding key_at
-returns-3 c = said _ _ _ _ c.before.before.before.gate-at.ensures c.before.n.given.1 _
+returns-3 c = said _ _ _ _ c.gate_at.ensures c.in-Refused.is _
 
-pub key-at-spec : {M : Type 1} → statement M
-key-at-spec =
+pub key_at_spec : {M : Type 1} → statement M
+key_at_spec =
     tie.close
     (tie.spec
     gate-at-requires

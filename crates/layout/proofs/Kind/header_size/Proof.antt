@@ -5,12 +5,12 @@ use borrow.Author.Rules.{rules}
 use Rattle.layout.proofs.Kind.header_size.Statement.{statement}
 use Rattle.layout.proofs.Kind.header_size.Tie as tie
 
-value-place-requires : tie.Need-value-place-requires
+value-place-requires : tie.Need-value_place-requires
 value-place-requires c κs = search rules
 
 returns : tie.Need-returns
 unfolding header_size
-returns c = c.value-place.ensures
+returns c = c.value_place.ensures
 
-pub header-size-spec : {M : Type 1} → statement M
-header-size-spec = tie.close (tie.spec value-place-requires returns)
+pub header_size_spec : {M : Type 1} → statement M
+header_size_spec = tie.close (tie.spec value-place-requires returns)

@@ -8,19 +8,19 @@ use borrow.Author.Rules.{rules}
 use Rattle.layout.proofs.Kind.key_entry.Statement.{statement}
 use Rattle.layout.proofs.Kind.key_entry.Tie as tie
 
-offset-size-requires : tie.Need-offset-size-requires
+offset-size-requires : tie.Need-offset_size-requires
 offset-size-requires c κs = search rules
 
-add-result : tie.Need-overflow-add-result
+add-result : tie.Need-overflow_add-result
 add-result c = search rules
 
-returns : tie.Need-returns
+returns : tie.Need-returns-then-self
 unfolding key_entry
-returns c = (yes _ c.before.if1.true (ap (λ (n : ℕ). n + 2) c.offset-size.ensures.0), search rules)
+returns c = (yes _ c.before.if-self.true (ap (λ (n : ℕ). n + 2) c.offset_size.ensures.0), search rules)
 
-returns-2 : tie.Need-returns-2
+returns-2 : tie.Need-returns
 unfolding key_entry
-returns-2 c = (no _ c.if1.false refl, search rules)
+returns-2 c = (no _ c.if-self.false refl, search rules)
 
-pub key-entry-spec : {M : Type 1} → statement M
-key-entry-spec = tie.close (tie.spec offset-size-requires add-result returns returns-2)
+pub key_entry_spec : {M : Type 1} → statement M
+key_entry_spec = tie.close (tie.spec offset-size-requires add-result returns returns-2)

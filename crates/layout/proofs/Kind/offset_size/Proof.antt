@@ -7,13 +7,13 @@ use Rattle.layout.proofs.Cond.{yes, no}
 use Rattle.layout.proofs.Kind.offset_size.Statement.{statement}
 use Rattle.layout.proofs.Kind.offset_size.Tie as tie
 
-returns : tie.Need-returns
+returns : tie.Need-returns-then-self
 unfolding offset_size
-returns c = (yes _ c.if1.true refl, search rules)
+returns c = (yes _ c.if-self.true refl, search rules)
 
-returns-2 : tie.Need-returns-2
+returns-2 : tie.Need-returns
 unfolding offset_size
-returns-2 c = (no _ c.if1.false refl, search rules)
+returns-2 c = (no _ c.if-self.false refl, search rules)
 
-pub offset-size-spec : {M : Type 1} → statement M
-offset-size-spec = tie.close (tie.spec returns returns-2)
+pub offset_size_spec : {M : Type 1} → statement M
+offset_size_spec = tie.close (tie.spec returns returns-2)

@@ -7,36 +7,36 @@ use Rattle.numeral.proofs.Scans.{zeros-short, zero-first, zero-not-first}
 use Rattle.numeral.proofs.reader.begins_00.Statement.{statement}
 use Rattle.numeral.proofs.reader.begins_00.Tie as tie
 
-returns : tie.Need-returns
-returns c = let a = c.before.args in sym (zeros-short a.text.now a.at (omega arith))
+returns : tie.Need-returns-then-n-at
+returns c = let a = c.args in sym (zeros-short a.text.now a.at (omega arith))
 
-sub-if2 : tie.Need-overflow-sub-if2
+sub-if2 : tie.Need-overflow_sub-n
 sub-if2 c = search rules
 
-returns-2 : tie.Need-returns-2
-returns-2 c = let a = c.before.before.args in sym (zeros-short a.text.now a.at (omega arith))
+returns-2 : tie.Need-returns-then-n-at-lt2
+returns-2 c = let a = c.args in sym (zeros-short a.text.now a.at (omega arith))
 
-shared-slice-read-if3 : tie.Need-shared-slice-read-if3
+shared-slice-read-if3 : tie.Need-bounds-text-at
 shared-slice-read-if3 c = search rules
 
-add-result : tie.Need-overflow-add-result
+add-result : tie.Need-overflow_add-result
 add-result c = search rules
 
-shared-slice-read-result : tie.Need-shared-slice-read-result
+shared-slice-read-result : tie.Need-bounds-text-at-then-text-at-eq48
 shared-slice-read-result c = search rules
 
-returns-3 : tie.Need-returns-3
+returns-3 : tie.Need-returns-then-text-at-eq48
 returns-3 c =
-    let a = c.before.before.before.before.before.args in
-    sym (zero-first a.text.now a.at (omega arith) c.before.if3.true)
+    let a = c.args in
+    sym (zero-first a.text.now a.at (omega arith) c.if-text-at-eq48.true)
 
-returns-4 : tie.Need-returns-4
+returns-4 : tie.Need-returns-else-text-at-eq48
 returns-4 c =
-    let a = c.before.before.before.before.args in
-    sym (zero-not-first a.text.now a.at (omega arith) c.if3.false)
+    let a = c.args in
+    sym (zero-not-first a.text.now a.at (omega arith) c.if-text-at-eq48.false)
 
-pub begins-00-spec : {M : Type 1} → statement M
-begins-00-spec =
+pub begins_00_spec : {M : Type 1} → statement M
+begins_00_spec =
     tie.close
     (tie.spec
     returns

@@ -5,11 +5,11 @@ use borrow.Author.Tests.{le-leb, lt-leb}
 use Rattle.numeral.proofs.reader.is_digit.Statement.{statement}
 use Rattle.numeral.proofs.reader.is_digit.Tie as tie
 
-returns : tie.Need-returns
-returns c = sym (simp (le-leb 48 c.before.args.c c.if1.true))
+returns : tie.Need-returns-then-c-ge48
+returns c = sym (simp (le-leb 48 c.args.c c.if-c-ge48.true))
 
-returns-2 : tie.Need-returns-2
-returns-2 c = sym (simp (lt-leb 48 c.before.args.c c.if1.false))
+returns-2 : tie.Need-returns-else-c-ge48
+returns-2 c = sym (simp (lt-leb 48 c.args.c c.if-c-ge48.false))
 
-pub is-digit-spec : {M : Type 1} → statement M
-is-digit-spec = tie.close (tie.spec returns returns-2)
+pub is_digit_spec : {M : Type 1} → statement M
+is_digit_spec = tie.close (tie.spec returns returns-2)

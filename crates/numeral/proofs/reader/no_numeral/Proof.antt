@@ -7,5 +7,5 @@ use Rattle.numeral.proofs.reader.no_numeral.Tie as tie
 returns : tie.Need-returns
 returns c = rw no-groups
 
-pub no-numeral-spec : {M : Type 1} → statement M
-no-numeral-spec = tie.close (tie.spec returns)
+pub no_numeral_spec : {M : Type 1} → statement M
+no_numeral_spec = tie.close (tie.spec returns)

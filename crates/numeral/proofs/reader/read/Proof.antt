@@ -6,23 +6,23 @@ use Rattle.numeral.specs.Read.{read_text}
 use Rattle.numeral.proofs.reader.read.Statement.{statement}
 use Rattle.numeral.proofs.reader.read.Tie as tie
 
-skip-zeros-requires : tie.Need-skip-zeros-requires
+skip-zeros-requires : tie.Need-skip_zeros-at-requires
 skip-zeros-requires c κs = search rules
 
-is-minus-requires : tie.Need-is-minus-requires
+is-minus-requires : tie.Need-is_minus-negative-requires
 is-minus-requires c κs = search rules
 
-skip-sign-requires : tie.Need-skip-sign-requires
+skip-sign-requires : tie.Need-skip_sign-from-requires
 skip-sign-requires c κs = search rules
 
-read-unsigned-requires : tie.Need-read-unsigned-requires
+read-unsigned-requires : tie.Need-read_unsigned-requires
 read-unsigned-requires c κs = search rules
 
 returns : tie.Need-returns
 unfolding read_text
 returns c =
-    let m = c.before.before in
-    c.read-unsigned.ensures ∙ simp (c.before.skip-sign.ensures.0, m.is-minus.ensures, m.before.skip-zeros.ensures.0)
+    let m = c in
+    c.read_unsigned.ensures ∙ simp (c.skip_sign-from.ensures.0, m.is_minus-negative.ensures, m.skip_zeros-at.ensures.0)
 
 pub read_spec : {M : Type 1} → statement M
 read_spec =

@@ -11,38 +11,38 @@ use Rattle.numeral.proofs.Scans.{sign_at}
 use Rattle.numeral.proofs.reader.skip_sign.Statement.{statement}
 use Rattle.numeral.proofs.reader.skip_sign.Tie as tie
 
-returns : tie.Need-returns
+returns : tie.Need-returns-then-text-at
 unfolding unsigned
 returns c =
-    let a = c.before.args in
+    let a = c.args in
     let l : length a.text.now ≤ a.at = omega arith in
     (rw (drop_of_length-le a.text.now l), search rules)
 
-shared-slice-read-c : tie.Need-shared-slice-read-c
+shared-slice-read-c : tie.Need-bounds-text-at
 shared-slice-read-c c = search rules
 
-add-result : tie.Need-overflow-add-result
+add-result : tie.Need-overflow_add-result
 add-result c = search rules
 
-returns-2 : tie.Need-returns-2
+returns-2 : tie.Need-returns-then-c-eq45
 returns-2 c =
-    let a = c.before.before.before.args in
-    (sym (sign_at a.text.now a.at (omega arith) ∙ simp (eq-eqb _ _ c.if2.true)), omega arith)
+    let a = c.args in
+    (sym (sign_at a.text.now a.at (omega arith) ∙ simp (eq-eqb _ _ c.if-c-eq45.true)), omega arith)
 
-add-result-2 : tie.Need-overflow-add-result-2
+add-result-2 : tie.Need-overflow_add-result-then-c-eq43
 add-result-2 c = search rules
 
-returns-3 : tie.Need-returns-3
+returns-3 : tie.Need-returns-then-c-eq43
 returns-3 c =
-    let a = c.before.before.before.before.args in
-    (sym (sign_at a.text.now a.at (omega arith) ∙ simp (ne_eqb _ _ c.before.if2.false, eq-eqb _ _ c.if3.true)), omega arith)
+    let a = c.args in
+    (sym (sign_at a.text.now a.at (omega arith) ∙ simp (ne_eqb _ _ c.if-c-eq45.false, eq-eqb _ _ c.if-c-eq43.true)), omega arith)
 
-returns-4 : tie.Need-returns-4
+returns-4 : tie.Need-returns-else-c-eq43
 returns-4 c =
-    let a = c.before.before.before.before.args in
-    (sym (sign_at a.text.now a.at (omega arith) ∙ simp (ne_eqb _ _ c.before.if2.false, ne_eqb _ _ c.if3.false)), omega arith)
+    let a = c.args in
+    (sym (sign_at a.text.now a.at (omega arith) ∙ simp (ne_eqb _ _ c.if-c-eq45.false, ne_eqb _ _ c.if-c-eq43.false)), omega arith)
 
-pub skip-sign-spec : {M : Type 1} → statement M
-skip-sign-spec =
+pub skip_sign_spec : {M : Type 1} → statement M
+skip_sign_spec =
     tie.close
     (tie.spec returns shared-slice-read-c add-result returns-2 add-result-2 returns-3 returns-4)

@@ -10,46 +10,46 @@ use Rattle.numeral.proofs.Numbers.{nines-none, nines-more}
 use Rattle.numeral.proofs.reader.take_nines.Statement.{statement}
 use Rattle.numeral.proofs.reader.take_nines.Tie as tie
 
-abbrev invariant-loop : tie.invariant-loop
+abbrev invariant-loop : tie.invariant-loop-k
 invariant-loop gs₀ text at from to p₀ k₀ gs p k =
     ((from ≤ k) × (k ≤ to)) × ((p ≡ at + 9 * (k - from)) × Nines text at from k gs₀ gs)
 
-abbrev decreases-loop : tie.decreases-loop
+abbrev decreases-loop : tie.decreases-loop-k
 decreases-loop gs₀ text at from to p₀ k₀ gs p k = to - k
 
-loop-holds : tie.Need-loop-init invariant-loop decreases-loop
+loop-holds : tie.Need-loop-k-init invariant-loop decreases-loop
 loop-holds c =
-    let a = c.before.args in
+    let a = c.args in
     (omega arith, (omega arith, nines-none a.text.now a.at a.from a.gs.now))
 
-number-at-requires : tie.Need-number-at-requires invariant-loop decreases-loop
+number-at-requires : tie.Need-number_at-requires invariant-loop decreases-loop
 number-at-requires c κs =
-    let l = c.before.loop in
-    let s = c.before.before.before in
+    let l = c.loop-k in
+    let s = c in
     let e : l.p ≡ s.args.at + 9 * (l.k - s.args.from) = l.invariant.1.0 in (
       (omega arith, omega arith),
       λ j h. rw (e, add_assoc) (s.requires.1.0 (9 * (l.k - s.args.from) + j) (omega arith)),
     )
 
-mul-gs : tie.Need-overflow-mul-gs invariant-loop decreases-loop
+mul-gs : tie.Need-offset_bounds-gs-k invariant-loop decreases-loop
 mul-gs c = search rules
 
-element-write-gs : tie.Need-element-write-gs invariant-loop decreases-loop
+element-write-gs : tie.Need-bounds-gs-k invariant-loop decreases-loop
 element-write-gs c = search rules
 
-add-p : tie.Need-overflow-add-p invariant-loop decreases-loop
+add-p : tie.Need-overflow_add-p invariant-loop decreases-loop
 add-p c = omega arith
 
-add-k : tie.Need-overflow-add-k invariant-loop decreases-loop
+add-k : tie.Need-overflow_step-k invariant-loop decreases-loop
 add-k c = omega arith
 
-loop-less : tie.Need-loop-smaller invariant-loop decreases-loop
+loop-less : tie.Need-loop-k-smaller invariant-loop decreases-loop
 loop-less c = omega arith
 
-loop-again : tie.Need-loop-preserved invariant-loop decreases-loop
+loop-again : tie.Need-loop-k-preserved invariant-loop decreases-loop
 loop-again c =
-    let l = c.before.before.loop in
-    let a = c.before.before.before.before.args in
+    let l = c.loop-k in
+    let a = c.args in
     let n = l.invariant.1.1.size in (
       (omega arith, omega arith),
       (
@@ -60,12 +60,12 @@ loop-again c =
 
 returns : tie.Need-returns invariant-loop decreases-loop
 returns c =
-    let l = c.before.loop in
-    let e : l.k ≡ c.before.before.before.args.to = omega arith in
+    let l = c.loop-k in
+    let e : l.k ≡ c.args.to = omega arith in
     (omega arith, rw e at l.invariant.1.1)
 
-pub take-nines-spec : {M : Type 1} → statement M
-take-nines-spec =
+pub take_nines_spec : {M : Type 1} → statement M
+take_nines_spec =
     tie.close
     (tie.spec
     invariant-loop

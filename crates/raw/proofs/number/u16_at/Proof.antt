@@ -13,7 +13,7 @@ left-requires c κs = search rules
 whole16-requires : tie.Need-whole16-requires
 whole16-requires c κs = search rules
 
-returns : tie.Need-returns
+returns : tie.Need-returns-then-left-ge2
 returns c =
     let a = c.before.before.before.before.args in
     (c.whole16.ensures.0 ∙ sym (le-inside 2 a.doc.now a.at a.end (omega arith)), c.whole16.ensures.1)
@@ -21,9 +21,9 @@ returns c =
 partial-requires : tie.Need-partial-requires
 partial-requires c κs = search rules
 
-returns-2 : tie.Need-returns-2
+returns-2 : tie.Need-returns
 returns-2 c = c.partial.ensures
 
-pub u16-at-spec : {M : Type 1} → statement M
-u16-at-spec =
+pub u16_at_spec : {M : Type 1} → statement M
+u16_at_spec =
     tie.close (tie.spec left-requires whole16-requires returns partial-requires returns-2)

@@ -13,7 +13,7 @@ left-requires c κs = search rules
 whole32-requires : tie.Need-whole32-requires
 whole32-requires c κs = search rules
 
-returns : tie.Need-returns
+returns : tie.Need-returns-then-left-ge4
 returns c =
     let a = c.before.before.before.before.args in
     (c.whole32.ensures.0 ∙ sym (le-inside 4 a.doc.now a.at a.end (omega arith)), c.whole32.ensures.1)
@@ -21,9 +21,9 @@ returns c =
 partial-requires : tie.Need-partial-requires
 partial-requires c κs = search rules
 
-returns-2 : tie.Need-returns-2
+returns-2 : tie.Need-returns
 returns-2 c = c.partial.ensures
 
-pub u32-at-spec : {M : Type 1} → statement M
-u32-at-spec =
+pub u32_at_spec : {M : Type 1} → statement M
+u32_at_spec =
     tie.close (tie.spec left-requires whole32-requires returns partial-requires returns-2)

@@ -13,7 +13,7 @@ left-requires c κs = search rules
 whole64-requires : tie.Need-whole64-requires
 whole64-requires c κs = search rules
 
-returns : tie.Need-returns
+returns : tie.Need-returns-then-left-ge8
 returns c =
     let a = c.before.before.before.before.args in
     c.whole64.ensures ∙ sym (le-inside 8 a.doc.now a.at a.end (omega arith))
@@ -21,9 +21,9 @@ returns c =
 partial-requires : tie.Need-partial-requires
 partial-requires c κs = search rules
 
-returns-2 : tie.Need-returns-2
+returns-2 : tie.Need-returns
 returns-2 c = c.partial.ensures.0
 
-pub u64-at-spec : {M : Type 1} → statement M
-u64-at-spec =
+pub u64_at_spec : {M : Type 1} → statement M
+u64_at_spec =
     tie.close (tie.spec left-requires whole64-requires returns partial-requires returns-2)

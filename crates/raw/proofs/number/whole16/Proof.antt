@@ -6,25 +6,25 @@ use Rattle.raw.proofs.Values.{value-two}
 use Rattle.raw.proofs.number.whole16.Statement.{statement}
 use Rattle.raw.proofs.number.whole16.Tie as tie
 
-shared-slice-read-wide : tie.Need-shared-slice-read-wide
+shared-slice-read-wide : tie.Need-bounds-doc-at
 shared-slice-read-wide c = search rules
 
-wide-requires : tie.Need-wide-requires
+wide-requires : tie.Need-wide-low-requires
 wide-requires c κs = search rules
 
-add_wide : tie.Need-overflow-add-wide
+add_wide : tie.Need-overflow_add-at
 add_wide c = search rules
 
-shared-slice-read-wide-2 : tie.Need-shared-slice-read-wide-2
+shared-slice-read-wide-2 : tie.Need-bounds-doc-at-2
 shared-slice-read-wide-2 c = search rules
 
-wide-requires-2 : tie.Need-wide-requires-2
+wide-requires-2 : tie.Need-wide-high-requires
 wide-requires-2 c κs = search rules
 
-mul-result : tie.Need-overflow-mul-result
+mul-result : tie.Need-overflow_mul-result
 mul-result c = search rules
 
-add-result : tie.Need-overflow-add-result
+add-result : tie.Need-overflow_add-result
 add-result c = search rules
 
 returns : tie.Need-returns
@@ -32,8 +32,8 @@ returns c =
     let a = c.before.before.before.before.before.args in
     (omega (arith, value-two a.at a.doc.now), search rules)
 
-pub whole16-spec : {M : Type 1} → statement M
-whole16-spec =
+pub whole16_spec : {M : Type 1} → statement M
+whole16_spec =
     tie.close
     (tie.spec
     shared-slice-read-wide

@@ -6,19 +6,19 @@ use Rattle.raw.proofs.Values.{value-split}
 use Rattle.raw.proofs.number.whole64.Statement.{statement}
 use Rattle.raw.proofs.number.whole64.Tie as tie
 
-whole32-requires : tie.Need-whole32-requires
+whole32-requires : tie.Need-whole32-low-requires
 whole32-requires c κs = search rules
 
-add-whole32 : tie.Need-overflow-add-whole32
+add-whole32 : tie.Need-overflow_add-at
 add-whole32 c = search rules
 
-whole32-requires-2 : tie.Need-whole32-requires-2
+whole32-requires-2 : tie.Need-whole32-high-requires
 whole32-requires-2 c κs = search rules
 
-mul-result : tie.Need-overflow-mul-result
+mul-result : tie.Need-overflow_mul-result
 mul-result c = search rules
 
-add-result : tie.Need-overflow-add-result
+add-result : tie.Need-overflow_add-result
 add-result c = search rules
 
 returns : tie.Need-returns
@@ -26,7 +26,7 @@ returns c =
     let a = c.before.before.before.args in
     omega (arith, value-split 4 4 a.at a.doc.now)
 
-pub whole64-spec : {M : Type 1} → statement M
-whole64-spec =
+pub whole64_spec : {M : Type 1} → statement M
+whole64_spec =
     tie.close
     (tie.spec whole32-requires add-whole32 whole32-requires-2 mul-result add-result returns)

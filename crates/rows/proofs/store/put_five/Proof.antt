@@ -8,29 +8,29 @@ use borrow.Author.Rules.{rules}
 use Rattle.rows.proofs.store.put_five.Statement.{statement}
 use Rattle.rows.proofs.store.put_five.Tie as tie
 
-slice-write-answer : tie.Need-slice-write-answer
+slice-write-answer : tie.Need-bounds-answer-0
 slice-write-answer c = search rules
 
-slice-write-answer-2 : tie.Need-slice-write-answer-2
+slice-write-answer-2 : tie.Need-bounds-answer-1
 slice-write-answer-2 c = simp length-set (omega arith)
 
-slice-write-answer-3 : tie.Need-slice-write-answer-3
+slice-write-answer-3 : tie.Need-bounds-answer-2
 slice-write-answer-3 c = simp length-set (omega arith)
 
-slice-write-answer-4 : tie.Need-slice-write-answer-4
+slice-write-answer-4 : tie.Need-bounds-answer-3
 slice-write-answer-4 c = simp length-set (omega arith)
 
-slice-write-answer-5 : tie.Need-slice-write-answer-5
+slice-write-answer-5 : tie.Need-bounds-answer-4
 slice-write-answer-5 c = search rules
 
-same_length : tie.Need-same-length
+same_length : tie.Need-shape_of-answer
 same_length c = search rules
 
 returns : tie.Need-returns
 returns c = let a = c.args in front (a.a ∷ a.b ∷ a.c ∷ a.d ∷ a.e ∷ []) a.answer.now c.requires
 
-pub put-five-spec : {M : Type 1} → statement M
-put-five-spec =
+pub put_five_spec : {M : Type 1} → statement M
+put_five_spec =
     tie.close
     (tie.spec
     slice-write-answer

@@ -9,41 +9,41 @@ use borrow.Author.Rules.{rules}
 use Rattle.rows.proofs.values.bits_of.Statement.{statement}
 use Rattle.rows.proofs.values.bits_of.Tie as tie
 
-enum-known-x : tie.Need-enum-known-x
+enum-known-x : tie.Need-enum_known-x
 enum-known-x c = search rules
 
-signed-bits-requires : tie.Need-signed-bits-requires
+signed-bits-requires : tie.Need-signed_bits-requires
 signed-bits-requires c κs = search rules
 
-enum-known-x-2 : tie.Need-enum-known-x-2
+enum-known-x-2 : tie.Need-enum_known-x-in-Uint-1
 enum-known-x-2 c = search rules
 
-enum-known-x-3 : tie.Need-enum-known-x-3
+enum-known-x-3 : tie.Need-enum_known-x-in-Double-1
 enum-known-x-3 c = search rules
 
-double-bits-requires : tie.Need-double-bits-requires
+double-bits-requires : tie.Need-double_bits-requires
 double-bits-requires c κs = search rules
 
-enum-known-x-4 : tie.Need-enum-known-x-4
+enum-known-x-4 : tie.Need-enum_known-x-in-Nan-1
 enum-known-x-4 c = search rules
 
-returns : tie.Need-returns
+returns : tie.Need-returns-in-Int
 returns c =
-    let x = c.before.before.x in
-    let known = c.before.known-told in
-    c.signed-bits.ensures ∙ ap (of_z w64) (to_z-of_z {w = w64} {z = x.given.0.0} (record { sfits = known.given.0.1 })) ∙ ap bits_of (sym x.given.1)
+    let x = c.in-Int in
+    let known = c.in-Int in
+    c.signed_bits.ensures ∙ ap (of_z w64) (to_z-of_z {w = w64} {z = x.n} (record { sfits = known.known_told-1-own.given.0.1 })) ∙ ap bits_of (sym x.is)
 
-returns-2 : tie.Need-returns-2
+returns-2 : tie.Need-returns-in-Uint
 returns-2 c = search rules
 
-returns-3 : tie.Need-returns-3
-returns-3 c = c.double-bits.ensures ∙ ap bits_of (sym c.before.before.x3.given.1)
+returns-3 : tie.Need-returns-in-Double
+returns-3 c = c.double_bits.ensures ∙ ap bits_of (sym c.in-Double.is)
 
-returns-4 : tie.Need-returns-4
+returns-4 : tie.Need-returns-in-Nan
 returns-4 c = search rules
 
-pub bits-of-spec : {M : Type 1} → statement M
-bits-of-spec =
+pub bits_of_spec : {M : Type 1} → statement M
+bits_of_spec =
     tie.close
     (tie.spec
     enum-known-x

@@ -5,14 +5,14 @@ use borrow.Author.Rules.{rules}
 use Rattle.rows.proofs.values.double_bits.Statement.{statement}
 use Rattle.rows.proofs.values.double_bits.Tie as tie
 
-returns : tie.Need-returns
-returns c = nan-bits c.before.args.x c.if1.true
+returns : tie.Need-returns-then-x
+returns c = nan-bits c.args.x c.if-x.true
 
-float-to-bits-result : tie.Need-float-to-bits-result
-float-to-bits-result c = number-bits c.before.args.x c.if1.false
+float-to-bits-result : tie.Need-float_to_bits-result
+float-to-bits-result c = number-bits c.args.x c.if-x.false
 
-returns-2 : tie.Need-returns-2
+returns-2 : tie.Need-returns
 returns-2 c = search rules
 
-pub double-bits-spec : {M : Type 1} → statement M
-double-bits-spec = tie.close (tie.spec returns float-to-bits-result returns-2)
+pub double_bits_spec : {M : Type 1} → statement M
+double_bits_spec = tie.close (tie.spec returns float-to-bits-result returns-2)

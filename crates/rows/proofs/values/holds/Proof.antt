@@ -6,21 +6,21 @@ use borrow.Author.Rules.{rules}
 use Rattle.rows.proofs.values.holds.Statement.{statement}
 use Rattle.rows.proofs.values.holds.Tie as tie
 
-enum-known-x : tie.Need-enum-known-x
+enum-known-x : tie.Need-enum_known-x
 enum-known-x c = search rules
 
-scalar-holds-requires : tie.Need-scalar-holds-requires
+scalar-holds-requires : tie.Need-scalar_holds-requires
 scalar-holds-requires c κs = search rules
 
-enum-known-x-2 : tie.Need-enum-known-x-2
+enum-known-x-2 : tie.Need-enum_known-x-in-Container-1
 enum-known-x-2 c = search rules
 
-returns : tie.Need-returns
-returns c = c.scalar-holds.ensures ∙ ap holds (sym c.before.before.x.given.1)
+returns : tie.Need-returns-in-Scalar
+returns c = c.scalar_holds.ensures ∙ ap holds (sym c.in-Scalar.is)
 
-returns-2 : tie.Need-returns-2
-returns-2 c = ap holds (sym c.before.x2.given.1)
+returns-2 : tie.Need-returns-in-Container
+returns-2 c = ap holds (sym c.in-Container.is)
 
-pub holds-spec : {M : Type 1} → statement M
-holds-spec =
+pub holds_spec : {M : Type 1} → statement M
+holds_spec =
     tie.close (tie.spec enum-known-x scalar-holds-requires enum-known-x-2 returns returns-2)

@@ -6,20 +6,20 @@ use borrow.Author.Rules.{rules}
 use Rattle.rows.proofs.values.kind_of.Statement.{statement}
 use Rattle.rows.proofs.values.kind_of.Tie as tie
 
-enum-known-x : tie.Need-enum-known-x
+enum-known-x : tie.Need-enum_known-x
 enum-known-x c = search rules
 
-scalar-kind-requires : tie.Need-scalar-kind-requires
+scalar-kind-requires : tie.Need-scalar_kind-requires
 scalar-kind-requires c κs = search rules
 
-enum_told : tie.Need-enum-told
+enum_told : tie.Need-enum_told-1
 enum_told c = search rules
 
-returns : tie.Need-returns
-returns c = c.scalar-kind.ensures ∙ ap kind_of (sym c.before.before.x.given.1)
+returns : tie.Need-returns-in-Scalar
+returns c = c.scalar_kind.ensures ∙ ap kind_of (sym c.in-Scalar.is)
 
-returns-2 : tie.Need-returns-2
+returns-2 : tie.Need-returns-in-Container
 returns-2 c = search rules
 
-pub kind-of-spec : {M : Type 1} → statement M
-kind-of-spec = tie.close (tie.spec enum-known-x scalar-kind-requires enum_told returns returns-2)
+pub kind_of_spec : {M : Type 1} → statement M
+kind_of_spec = tie.close (tie.spec enum-known-x scalar-kind-requires enum_told returns returns-2)

@@ -9,49 +9,49 @@ use borrow.Author.Rules.{rules}
 use Rattle.rows.proofs.values.scalar_holds.Statement.{statement}
 use Rattle.rows.proofs.values.scalar_holds.Tie as tie
 
-enum_told : tie.Need-enum-told
+enum_told : tie.Need-enum_told-1
 enum_told c = search rules
 
-enum-known-s : tie.Need-enum-known-s
+enum-known-s : tie.Need-enum_known-s
 enum-known-s c = search rules
 
 one-requires : tie.Need-one-requires
 one-requires c κs = search rules
 
-enum-known-s-2 : tie.Need-enum-known-s-2
+enum-known-s-2 : tie.Need-enum_known-s-in-Number-1
 enum-known-s-2 c = search rules
 
-bits-of-requires : tie.Need-bits-of-requires
+bits-of-requires : tie.Need-bits_of-requires
 bits-of-requires c κs = search rules
 
 halves-requires : tie.Need-halves-requires
 halves-requires c κs = search rules
 
-enum-known-s-3 : tie.Need-enum-known-s-3
+enum-known-s-3 : tie.Need-enum_known-s-in-String-1
 enum-known-s-3 c = search rules
 
-enum-known-s-4 : tie.Need-enum-known-s-4
+enum-known-s-4 : tie.Need-enum_known-s-in-Opaque-1
 enum-known-s-4 c = search rules
 
-returns : tie.Need-returns
-returns c = ap scalar_holds (sym c.enum_told.given.1)
+returns : tie.Need-returns-in-Null
+returns c = ap scalar_holds (sym c.in-Null.is)
 
-returns-2 : tie.Need-returns-2
-returns-2 c = ap (λ (n : ℕ). span n 0) c.one.ensures ∙ ap scalar_holds (sym c.before.before.s.given.1)
+returns-2 : tie.Need-returns-in-Boolean
+returns-2 c = ap (λ (n : ℕ). span n 0) c.one.ensures ∙ ap scalar_holds (sym c.in-Boolean.is)
 
-returns-3 : tie.Need-returns-3
+returns-3 : tie.Need-returns-in-Number
 returns-3 c =
-    let s = c.before.before.before.s2 in
-    c.halves.ensures ∙ ap (λ (n : ℕ). span (low n) (high n)) c.before.bits_of.ensures ∙ ap scalar_holds (sym s.given.1)
+    let s = c.in-Number in
+    c.halves.ensures ∙ ap (λ (n : ℕ). span (low n) (high n)) c.bits_of.ensures ∙ ap scalar_holds (sym s.is)
 
-returns-4 : tie.Need-returns-4
+returns-4 : tie.Need-returns-in-String
 returns-4 c = search rules
 
-returns-5 : tie.Need-returns-5
-returns-5 c = ap scalar_holds (sym c.before.s4.given.1)
+returns-5 : tie.Need-returns-in-Opaque
+returns-5 c = ap scalar_holds (sym c.in-Opaque.is)
 
-pub scalar-holds-spec : {M : Type 1} → statement M
-scalar-holds-spec =
+pub scalar_holds_spec : {M : Type 1} → statement M
+scalar_holds_spec =
     tie.close
     (tie.spec
     enum_told

@@ -10,60 +10,60 @@ use borrow.Author.Rules.{rules}
 use Rattle.steps.proofs.Elements.next.Statement.{statement}
 use Rattle.steps.proofs.Elements.next.Tie as tie
 
-gate-at-requires : tie.Need-gate-at-requires
+gate-at-requires : tie.Need-gate_at-requires
 gate-at-requires c κs = search rules
 
-enum_told : tie.Need-enum-told
+enum_told : tie.Need-enum_told-1
 enum_told c = search rules
 
-read-entry-requires : tie.Need-read-entry-requires
+read-entry-requires : tie.Need-read_entry-requires
 read-entry-requires c κs = search rules
 
-found-of-requires : tie.Need-found-of-requires
+found-of-requires : tie.Need-found_of-requires
 found-of-requires c κs = search rules
 
-add-element-step : tie.Need-overflow-add-element-step
+add-element-step : tie.Need-overflow_add-i
 add-element-step c =
-    let h = open-whole _ _ _ _ c.before.before.before.before.gate-at.ensures c.before.before.enum_told.given.1 in
+    let h = open-whole _ _ _ _ c.gate_at.ensures c.in-Open.is in
     omega (arith, h.below)
 
-element-step-requires : tie.Need-element-step-requires
+element-step-requires : tie.Need-element_step-requires
 element-step-requires c κs = search rules
 
-enum-told-2 : tie.Need-enum-told-2
+enum-told-2 : tie.Need-enum_told-in-Nothing
 enum-told-2 c = search rules
 
-element-step-requires-2 : tie.Need-element-step-requires-2
+element-step-requires-2 : tie.Need-element_step-requires-in-Nothing
 element-step-requires-2 c κs = search rules
 
-enum-known-n : tie.Need-enum-known-n
+enum-known-n : tie.Need-enum_known-n
 enum-known-n c = search rules
 
-element-step-requires-3 : tie.Need-element-step-requires-3
+element-step-requires-3 : tie.Need-element_step-requires-in-Refused
 element-step-requires-3 c κs = search rules
 
-returns : tie.Need-returns
+returns : tie.Need-returns-in-Open
 unfolding element_item
 returns c =
-    stepped _ _ _ _ c.before.before.before.before.before.gate-at.ensures c.before.before.before.enum_told.given.1 _
-    (ap found_said c.element-step.ensures.0
-    ∙ c.before.found_of.ensures
-    ∙ ap read_said (c.before.before.read-entry.ensures ∙ whole-entry _ _ _ (open-whole _ _ _ _ c.before.before.before.before.before.gate-at.ensures c.before.before.before.enum_told.given.1))) c.element-step.ensures.1
+    stepped _ _ _ _ c.gate_at.ensures c.in-Open.is _
+    (ap found_said c.element_step.ensures.0
+    ∙ c.found_of.ensures
+    ∙ ap read_said (c.read_entry.ensures ∙ whole-entry _ _ _ (open-whole _ _ _ _ c.gate_at.ensures c.in-Open.is))) c.element_step.ensures.1
 
-returns-2 : tie.Need-returns-2
+returns-2 : tie.Need-returns-in-Nothing
 unfolding element_item
 returns-2 c =
-    stepped _ _ _ _ c.before.before.before.gate-at.ensures c.before.enum-told2.given.1 _
-    (ap found_said c.element-step2.ensures.0) c.element-step2.ensures.1
+    stepped _ _ _ _ c.gate_at.ensures c.in-Nothing.is _
+    (ap found_said c.element_step-in-Nothing.ensures.0) c.element_step-in-Nothing.ensures.1
 
-returns-3 : tie.Need-returns-3
+returns-3 : tie.Need-returns-in-Refused
 unfolding element_item
 returns-3 c =
-    stepped _ _ _ _ c.before.before.before.before.gate-at.ensures c.before.before.n.given.1 _
-    (ap found_said c.element-step3.ensures.0) c.element-step3.ensures.1
+    stepped _ _ _ _ c.gate_at.ensures c.in-Refused.is _
+    (ap found_said c.element_step-in-Refused.ensures.0) c.element_step-in-Refused.ensures.1
 
-pub next-spec : {M : Type 1} → statement M
-next-spec =
+pub next_spec : {M : Type 1} → statement M
+next_spec =
     tie.close
     (tie.spec
     gate-at-requires

@@ -10,60 +10,60 @@ use borrow.Author.Rules.{rules}
 use Rattle.steps.proofs.Keys.next.Statement.{statement}
 use Rattle.steps.proofs.Keys.next.Tie as tie
 
-gate-at-requires : tie.Need-gate-at-requires
+gate-at-requires : tie.Need-gate_at-requires
 gate-at-requires c κs = search rules
 
-enum_told : tie.Need-enum-told
+enum_told : tie.Need-enum_told-1
 enum_told c = search rules
 
-read-key-requires : tie.Need-read-key-requires
+read-key-requires : tie.Need-read_key-requires
 read-key-requires c κs = search rules
 
-key-of-requires : tie.Need-key-of-requires
+key-of-requires : tie.Need-key_of-requires
 key-of-requires c κs = search rules
 
-add-key-step : tie.Need-overflow-add-key-step
+add-key-step : tie.Need-overflow_add-i
 add-key-step c =
-    let h = open-whole _ _ _ _ c.before.before.before.before.gate-at.ensures c.before.before.enum_told.given.1 in
+    let h = open-whole _ _ _ _ c.gate_at.ensures c.in-Open.is in
     omega (arith, h.below)
 
-key-step-requires : tie.Need-key-step-requires
+key-step-requires : tie.Need-key_step-requires
 key-step-requires c κs = search rules
 
-enum-told-2 : tie.Need-enum-told-2
+enum-told-2 : tie.Need-enum_told-in-Nothing
 enum-told-2 c = search rules
 
-key-step-requires-2 : tie.Need-key-step-requires-2
+key-step-requires-2 : tie.Need-key_step-requires-in-Nothing
 key-step-requires-2 c κs = search rules
 
-enum-known-n : tie.Need-enum-known-n
+enum-known-n : tie.Need-enum_known-n
 enum-known-n c = search rules
 
-key-step-requires-3 : tie.Need-key-step-requires-3
+key-step-requires-3 : tie.Need-key_step-requires-in-Refused
 key-step-requires-3 c κs = search rules
 
-returns : tie.Need-returns
+returns : tie.Need-returns-in-Open
 unfolding key_item
 returns c =
-    stepped _ _ _ _ c.before.before.before.before.before.gate-at.ensures c.before.before.before.enum_told.given.1 _
+    stepped _ _ _ _ c.gate_at.ensures c.in-Open.is _
     (ap key_said c.key_step.ensures.0
-    ∙ c.before.key_of.ensures
-    ∙ ap part_said (c.before.before.read-key.ensures ∙ whole-key _ _ _ (open-whole _ _ _ _ c.before.before.before.before.before.gate-at.ensures c.before.before.before.enum_told.given.1))) c.key_step.ensures.1
+    ∙ c.key_of.ensures
+    ∙ ap part_said (c.read_key.ensures ∙ whole-key _ _ _ (open-whole _ _ _ _ c.gate_at.ensures c.in-Open.is))) c.key_step.ensures.1
 
-returns-2 : tie.Need-returns-2
+returns-2 : tie.Need-returns-in-Nothing
 unfolding key_item
 returns-2 c =
-    stepped _ _ _ _ c.before.before.before.gate-at.ensures c.before.enum-told2.given.1 _
-    (ap key_said c.key-step2.ensures.0) c.key-step2.ensures.1
+    stepped _ _ _ _ c.gate_at.ensures c.in-Nothing.is _
+    (ap key_said c.key_step-in-Nothing.ensures.0) c.key_step-in-Nothing.ensures.1
 
-returns-3 : tie.Need-returns-3
+returns-3 : tie.Need-returns-in-Refused
 unfolding key_item
 returns-3 c =
-    stepped _ _ _ _ c.before.before.before.before.gate-at.ensures c.before.before.n.given.1 _
-    (ap key_said c.key-step3.ensures.0) c.key-step3.ensures.1
+    stepped _ _ _ _ c.gate_at.ensures c.in-Refused.is _
+    (ap key_said c.key_step-in-Refused.ensures.0) c.key_step-in-Refused.ensures.1
 
-pub next-spec : {M : Type 1} → statement M
-next-spec =
+pub next_spec : {M : Type 1} → statement M
+next_spec =
     tie.close
     (tie.spec
     gate-at-requires

@@ -7,5 +7,5 @@ use Rattle.time.proofs.fields.is_below.Tie as tie
 returns : tie.Need-returns
 returns c = below_half c.args.n
 
-pub is-below-spec : {M : Type 1} → statement M
-is-below-spec = tie.close (tie.spec returns)
+pub is_below_spec : {M : Type 1} → statement M
+is_below_spec = tie.close (tie.spec returns)

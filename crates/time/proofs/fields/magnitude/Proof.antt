@@ -5,17 +5,17 @@ use borrow.Author.Rules.{rules}
 use Rattle.time.proofs.fields.magnitude.Statement.{statement}
 use Rattle.time.proofs.fields.magnitude.Tie as tie
 
-returns : tie.Need-returns
-returns c = lower _ c.if1.true
+returns : tie.Need-returns-then-n-lt9223372036854775808
+returns c = lower _ c.if-n-lt9223372036854775808.true
 
-sub-result : tie.Need-overflow-sub-result
+sub-result : tie.Need-overflow_sub-result
 sub-result c = search rules
 
-add-result : tie.Need-overflow-add-result
+add-result : tie.Need-overflow_add-result
 add-result c = search rules
 
-returns-2 : tie.Need-returns-2
-returns-2 c = upper _ c.if1.false c.before.ranges.n.fits
+returns-2 : tie.Need-returns
+returns-2 c = upper _ c.if-n-lt9223372036854775808.false c.before.ranges.n.fits
 
-pub magnitude-spec : {M : Type 1} → statement M
-magnitude-spec = tie.close (tie.spec returns sub-result add-result returns-2)
+pub magnitude_spec : {M : Type 1} → statement M
+magnitude_spec = tie.close (tie.spec returns sub-result add-result returns-2)

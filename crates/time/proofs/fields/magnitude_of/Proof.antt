@@ -6,45 +6,45 @@ use borrow.Author.Rules.{rules}
 use Rattle.time.proofs.fields.magnitude_of.Statement.{statement}
 use Rattle.time.proofs.fields.magnitude_of.Tie as tie
 
-above-minutes-requires : tie.Need-above-minutes-requires
+above-minutes-requires : tie.Need-above_minutes-requires
 above-minutes-requires c κs = search rules
 
-mul-result : tie.Need-overflow-mul-result
-mul-result c = record { fits = omega (arith, small-parts _ c.before.requires c.above-minutes.ensures) }
+mul-result : tie.Need-overflow_mul-result
+mul-result c = record { fits = omega (arith, small-parts _ c.before.requires c.above_minutes.ensures) }
 
-cast-result : tie.Need-overflow-cast-result
+cast-result : tie.Need-overflow_cast-result
 cast-result c = search rules
 
-add-result : tie.Need-overflow-add-result
-add-result c = record { fits = omega (arith, small-parts _ c.before.before.requires c.before.above-minutes.ensures) }
+add-result : tie.Need-overflow_add-result
+add-result c = record { fits = omega (arith, small-parts _ c.before.before.requires c.before.above_minutes.ensures) }
 
-mul-result-2 : tie.Need-overflow-mul-result-2
-mul-result-2 c = record { fits = omega (arith, small-parts _ c.before.before.requires c.before.above-minutes.ensures) }
+mul-result-2 : tie.Need-overflow_mul-result-2
+mul-result-2 c = record { fits = omega (arith, small-parts _ c.before.before.requires c.before.above_minutes.ensures) }
 
-cast-result-2 : tie.Need-overflow-cast-result-2
+cast-result-2 : tie.Need-overflow_cast-result-2
 cast-result-2 c = search rules
 
-add-result-2 : tie.Need-overflow-add-result-2
-add-result-2 c = record { fits = omega (arith, small-parts _ c.before.before.before.requires c.before.before.above-minutes.ensures) }
+add-result-2 : tie.Need-overflow_add-result-2
+add-result-2 c = record { fits = omega (arith, small-parts _ c.before.before.before.requires c.before.before.above_minutes.ensures) }
 
-mul-result-3 : tie.Need-overflow-mul-result-3
-mul-result-3 c = record { fits = omega (arith, small-parts _ c.before.before.before.requires c.before.before.above-minutes.ensures) }
+mul-result-3 : tie.Need-overflow_mul-result-3
+mul-result-3 c = record { fits = omega (arith, small-parts _ c.before.before.before.requires c.before.before.above_minutes.ensures) }
 
-cast-result-3 : tie.Need-overflow-cast-result-3
+cast-result-3 : tie.Need-overflow_cast-result-3
 cast-result-3 c = search rules
 
-add-result-3 : tie.Need-overflow-add-result-3
-add-result-3 c = record { fits = omega (arith, small-parts _ c.before.before.before.before.requires c.before.before.before.above-minutes.ensures) }
+add-result-3 : tie.Need-overflow_add-result-3
+add-result-3 c = record { fits = omega (arith, small-parts _ c.before.before.before.before.requires c.before.before.before.above_minutes.ensures) }
 
 returns : tie.Need-returns
 returns c =
     let w = c.before.before.before in
     let t = w.before.args.t in
-    let e = is-magnitude t w.above-minutes.ensures in
+    let e = is-magnitude t w.above_minutes.ensures in
     (e, omega (arith, e, magnitude-below t w.before.requires))
 
-pub magnitude-of-spec : {M : Type 1} → statement M
-magnitude-of-spec =
+pub magnitude_of_spec : {M : Type 1} → statement M
+magnitude_of_spec =
     tie.close
     (tie.spec
     above-minutes-requires

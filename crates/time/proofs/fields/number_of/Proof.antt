@@ -6,22 +6,22 @@ use borrow.Author.Rules.{rules}
 use Rattle.time.proofs.fields.number_of.Statement.{statement}
 use Rattle.time.proofs.fields.number_of.Tie as tie
 
-magnitude-of-requires : tie.Need-magnitude-of-requires
+magnitude-of-requires : tie.Need-magnitude_of-m-requires
 magnitude-of-requires c κs = search rules
 
-sub-result : tie.Need-overflow-sub-result
+sub-result : tie.Need-overflow_sub-result
 sub-result c = search rules
 
-add-result : tie.Need-overflow-add-result
+add-result : tie.Need-overflow_add-result
 add-result c =
     let w = c.before.before in
-    record { fits = omega (arith, c.before.magnitude-of.ensures, negative-above-zero w.args.t w.requires c.if1.true) }
+    record { fits = omega (arith, c.before.magnitude_of-m.ensures, negative-above-zero w.args.t w.requires c.if-t.true) }
 
-returns : tie.Need-returns
-returns c = bits-of-negative c.before.before.args.t c.before.before.requires c.before.magnitude-of.ensures.0 c.if1.true
+returns : tie.Need-returns-then-t
+returns c = bits-of-negative c.before.before.args.t c.before.before.requires c.before.magnitude_of-m.ensures.0 c.if-t.true
 
-returns-2 : tie.Need-returns-2
-returns-2 c = bits-of-positive c.before.before.args.t c.before.before.requires c.before.magnitude-of.ensures.0 c.if1.false
+returns-2 : tie.Need-returns
+returns-2 c = bits-of-positive c.before.before.args.t c.before.before.requires c.before.magnitude_of-m.ensures.0 c.if-t.false
 
-pub number-of-spec : {M : Type 1} → statement M
-number-of-spec = tie.close (tie.spec magnitude-of-requires sub-result add-result returns returns-2)
+pub number_of_spec : {M : Type 1} → statement M
+number_of_spec = tie.close (tie.spec magnitude-of-requires sub-result add-result returns returns-2)

@@ -8,24 +8,24 @@ use borrow.Author.Rules.{rules}
 use Rattle.time.proofs.ranges.sign_allowed.Statement.{statement}
 use Rattle.time.proofs.ranges.sign_allowed.Tie as tie
 
-returns : tie.Need-returns
-returns c = no_sign _ c.if1.taken
+returns : tie.Need-returns-then-not-t
+returns c = no_sign _ c.if-not-t.true
 
-is-time-requires : tie.Need-is-time-requires
+is-time-requires : tie.Need-is_time-requires
 is-time-requires c κs = search rules
 
-returns-2 : tie.Need-returns-2
+returns-2 : tie.Need-returns-then-not-is_time
 returns-2 c =
-    sign-on-date _ c.before.before.if1.left (sym c.before.is-time.ensures ∙ not-true _ c.if2.taken)
+    sign-on-date _ c.before.before.if-not-t.false (sym c.before.is_time.ensures ∙ not-true _ c.if-not-is_time.true-raw)
 
-is-zero-requires : tie.Need-is-zero-requires
+is-zero-requires : tie.Need-is_zero-requires
 is-zero-requires c κs = search rules
 
-returns-3 : tie.Need-returns-3
+returns-3 : tie.Need-returns
 returns-3 c =
     ap not c.is_zero.ensures
-    ∙ sign-on-time _ c.before.before.before.if1.left (sym c.before.before.is-time.ensures ∙ not-false _ c.before.if2.left)
+    ∙ sign-on-time _ c.before.before.before.if-not-t.false (sym c.before.before.is_time.ensures ∙ not-false _ c.before.if-not-is_time.false-raw)
 
-pub sign-allowed-spec : {M : Type 1} → statement M
-sign-allowed-spec =
+pub sign_allowed_spec : {M : Type 1} → statement M
+sign_allowed_spec =
     tie.close (tie.spec returns is-time-requires returns-2 is-zero-requires returns-3)

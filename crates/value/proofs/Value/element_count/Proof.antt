@@ -6,17 +6,17 @@ use borrow.Author.Rules.{rules}
 use Rattle.value.proofs.Value.element_count.Statement.{statement}
 use Rattle.value.proofs.Value.element_count.Tie as tie
 
-enum_told : tie.Need-enum-told
+enum_told : tie.Need-enum_told-1
 enum_told c = search rules
 
-enum-known-self : tie.Need-enum-known-self
+enum-known-self : tie.Need-enum_known-self
 enum-known-self c = search rules
 
-returns : tie.Need-returns
+returns : tie.Need-returns-in-Scalar
 returns c = search rules
 
-returns-2 : tie.Need-returns-2
-returns-2 c = sym (ap element_count c.before.self.given.1)
+returns-2 : tie.Need-returns-in-Container
+returns-2 c = sym (ap element_count c.in-Container.is)
 
-pub element-count-spec : {M : Type 1} → statement M
-element-count-spec = tie.close (tie.spec enum_told enum-known-self returns returns-2)
+pub element_count_spec : {M : Type 1} → statement M
+element_count_spec = tie.close (tie.spec enum_told enum-known-self returns returns-2)

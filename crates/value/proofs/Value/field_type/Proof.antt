@@ -5,23 +5,22 @@ use Rattle.value.specs.Asked.{field_type}
 use borrow.Author.Rules.{rules}
 use Rattle.value.proofs.Value.field_type.Statement.{statement}
 use Rattle.value.proofs.Value.field_type.Tie as tie
-use Rattle.value.proofs.asked.scalar_field.Reads as scalar-field-reads
 
-enum-known-self : tie.Need-enum-known-self
+enum-known-self : tie.Need-enum_known-self
 enum-known-self c = search rules
 
-scalar-field-requires : tie.Need-scalar-field-requires
+scalar-field-requires : tie.Need-scalar_field-requires
 scalar-field-requires c κs = search rules
 
-enum_told : tie.Need-enum-told
+enum_told : tie.Need-enum_told-1
 enum_told c = search rules
 
-returns : tie.Need-returns
-returns c = c.scalar-field.ensures ∙ sym (ap field_type c.before.before.self.given.1)
+returns : tie.Need-returns-in-Scalar
+returns c = c.scalar_field.ensures ∙ sym (ap field_type c.in-Scalar.is)
 
-returns-2 : tie.Need-returns-2
+returns-2 : tie.Need-returns-in-Container
 returns-2 c = search rules
 
-pub field-type-spec : {M : Type 1} → statement M
-field-type-spec =
+pub field_type_spec : {M : Type 1} → statement M
+field_type_spec =
     tie.close (tie.spec enum-known-self scalar-field-requires enum_told returns returns-2)

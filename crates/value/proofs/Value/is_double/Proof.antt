@@ -5,23 +5,22 @@ use Rattle.value.specs.Asked.{is_double}
 use borrow.Author.Rules.{rules}
 use Rattle.value.proofs.Value.is_double.Statement.{statement}
 use Rattle.value.proofs.Value.is_double.Tie as tie
-use Rattle.value.proofs.asked.is_double_scalar.Reads as is-double-scalar-reads
 
-enum-known-self : tie.Need-enum-known-self
+enum-known-self : tie.Need-enum_known-self
 enum-known-self c = search rules
 
-is-double-scalar-requires : tie.Need-is-double-scalar-requires
+is-double-scalar-requires : tie.Need-is_double_scalar-requires
 is-double-scalar-requires c κs = search rules
 
-enum_told : tie.Need-enum-told
+enum_told : tie.Need-enum_told-1
 enum_told c = search rules
 
-returns : tie.Need-returns
-returns c = c.is-double-scalar.ensures ∙ sym (ap is_double c.before.before.self.given.1)
+returns : tie.Need-returns-in-Scalar
+returns c = c.is_double_scalar.ensures ∙ sym (ap is_double c.in-Scalar.is)
 
-returns-2 : tie.Need-returns-2
+returns-2 : tie.Need-returns-in-Container
 returns-2 c = search rules
 
-pub is-double-spec : {M : Type 1} → statement M
-is-double-spec =
+pub is_double_spec : {M : Type 1} → statement M
+is_double_spec =
     tie.close (tie.spec enum-known-self is-double-scalar-requires enum_told returns returns-2)

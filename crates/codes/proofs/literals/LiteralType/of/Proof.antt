@@ -1,7 +1,6 @@
 -- Each number has its own arm, and any other is the number of none.
 -- Assumes nothing.
 use mathlib.Core.Path.{sym}
-use mathlib.Core.List.{[], ◌∷◌}
 use Rattle.codes.specs.Lists.{search}
 use Rattle.codes.specs.Literals.{code_of, all, type_of}
 use Rattle.codes.specs.declared.literals.LiteralOf.TheVariants.{Known, Refused}
@@ -14,7 +13,7 @@ unfolding type_of search Others
 of_spec =
     tie.close
     (tie.spec
-    (λ c. sym (simp c.match.keys1))
-    (λ c. sym (simp c.match.keys2))
-    (λ c. sym (simp c.match.keys3))
-    (λ c. sym (search-none code_of Known (Refused 7) _ all _ c.match.rest)))
+    (λ c. sym (simp c.in-0.is))
+    (λ c. sym (simp c.in-1.is))
+    (λ c. sym (simp c.in-2.is))
+    (λ c. sym (search-none code_of Known (Refused 7) _ all _ c.in_default.in_default-own.rest)))
