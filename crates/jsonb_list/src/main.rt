@@ -1,7 +1,7 @@
 // jsonb-list: every path of a binary JSON document, an event to a line. It reads the file that its one argument names, or standard input.
 #![tactic(auto)]
 
-ghost use Rattle.std.specs.Prelude.{◌≤◌, length};
+ghost use Rattle.std.specs.Prelude.{◌≡◌, ◌≤◌, length, take};
 
 use std::env::{Env, FillError};
 use std::fs::File;
@@ -181,7 +181,8 @@ fn read_one<R: Read>(input: &mut R) -> io::Result<usize> {
 }
 
 fn bounded(n: usize, buf: &[u8]) -> usize
-    ensures { result ≤ length buf.now }
+    ensures in_bounds { result ≤ length buf.now }
+    ensures front { result ≡ length (take result buf.now) }
 {
     if n <= buf.len() {
         return n;
