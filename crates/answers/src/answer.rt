@@ -17,7 +17,13 @@ fn from_numbers(out: &mut Output<'_>, at: usize, asked: Asked, n: [u32; 24]) -> 
     }
 }
 
-fn from_decimal(out: &mut Output<'_>, at: usize, asked: Asked, n: [u32; 24], bytes: &[u8]) -> usize {
+fn from_decimal(
+    out: &mut Output<'_>,
+    at: usize,
+    asked: Asked,
+    n: [u32; 24],
+    bytes: &[u8],
+) -> usize {
     match asked {
         Asked::Bin => decimal_answers::put_bin(out, at, n, bytes),
         Asked::Packed => decimal_answers::put_packed(out, at, n, bytes),

@@ -144,7 +144,13 @@ fn end_of(buf: &[u8], held: usize, n: usize) -> usize
     held + n
 }
 
-fn read_lines(rt: HostRuntime, out: &mut Output<'_>, buf: &mut [u8], held: usize, is_skipped: bool) -> State
+fn read_lines(
+    rt: HostRuntime,
+    out: &mut Output<'_>,
+    buf: &mut [u8],
+    held: usize,
+    is_skipped: bool,
+) -> State
     requires { held ≤ length buf.old }
 {
     let Ok(n) = read_some(rt, buf, held) else {

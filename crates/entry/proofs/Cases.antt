@@ -22,7 +22,7 @@ use Rattle.content.specs.declared.Read.{Read}
 use Rattle.content.specs.declared.Read.TheVariants as read
 use Rattle.content.specs.declared.Part.{Part}
 use Rattle.content.specs.declared.Part.TheVariants as part
-use Rattle.entry.specs.Entries.{is_inlined, pointed_at, typed_entry, entry_of, end_of, value_end, entry_at, entry_read, key_offset, key_length, key_of, key_place_at, key_end, key_entry_at, key_read}
+use Rattle.entry.specs.Entries.{is_inlined, pointed_at, typed_entry, entry_of, end_of, value_end, entry_at, entry_read, key_offset, key_length, key_of, key_end, key_entry_at, key_read}
 
 -- a value at its offset; o and w are the offset and the offset size as callees give them
 module _ (d : List ℕ) (v : View) (t : JsonbType) (body : ℕ) {o w : ℕ}

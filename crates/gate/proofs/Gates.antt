@@ -16,11 +16,9 @@ use Rattle.header.specs.declared.Header.{Header}
 use Rattle.header.specs.declared.Header.TheVariants as header
 use Rattle.gate.specs.declared.Gate.{Gate}
 use Rattle.gate.specs.declared.Gate.TheVariants.{Open, Nothing, Refused}
-use Rattle.gate.specs.Said.{Said, says, nothing, refuses}
+use Rattle.gate.specs.Said.{Said, nothing, refuses}
 use Rattle.gate.specs.Before.{matches, names, gated, gate_of, Whole}
-use Rattle.layout.specs.Layout.{value_place, key_place, key_entry}
 use Rattle.layout.proofs.Inside.{size-two, value-inside, key-inside}
-use Rattle.header.specs.Course.{Within}
 use Rattle.header.proofs.Placed.{placed-within}
 use Rattle.content.specs.declared.Read.TheVariants as read
 use Rattle.content.specs.declared.Part.TheVariants as part

@@ -37,7 +37,7 @@ fn text_end(text: &[u8], end: usize) -> usize
     requires { end ≤ length text.now }
     ensures { result ≤ end }
 {
-    for i in 0..end {
+    for i in (0..end).rev() {
         if text[i] == b'(' {
             return i.saturating_sub(1);
         }
@@ -50,7 +50,7 @@ fn fail(rt: HostRuntime, what: &[u8], error: io::Error) {
     let mut text = [0u8; 256];
     let mut rest = &mut text[..];
     let _ = write!(rest, "{error}");
-    let n = 256 - rest.len();
+    let n = 256usize.saturating_sub(rest.len());
     let end = text_end(&text, n);
     complain(rt, what);
     complain(rt, b": ");

@@ -3,7 +3,9 @@
 
 use decimal::{Counted, Decimal};
 use decimal_words::{put_counted, put_order};
-use output::{FILL, Output, is_filled, put, put_front, put_front_hex, put_kept, put_refused, put_what};
+use output::{
+    FILL, Output, is_filled, put, put_front, put_front_hex, put_kept, put_refused, put_what,
+};
 
 // Where the output goes on, and whether every byte outside the result is as it was.
 #[derive(Clone, Copy)]

@@ -1,5 +1,7 @@
 // The functions for programs in C and Rust: numbers and lent slices alone, and no demand on the caller. Each returns a refusal's number, or 0, and
 // stores its answer's numbers at the front of `answer`; an `answer` that is too short is refused by 25 before all else, and then nothing lent changes.
+#![tactic(auto)]
+
 ghost use Rattle.std.specs.Prelude.{◌≡◌};
 ghost use Rattle.gate.specs.Said.{read_said};
 ghost use Rattle.jsonb.specs.Views.{root_read, elem_at, key_at, count_at};

@@ -3,9 +3,9 @@
 
 use jsonb::{Read, Value};
 use opaque_time::TimePart;
+use std::io::Stdout;
 use time::{MysqlTime, TimeRead, TimeType, TimeWritten};
 use time_words::say_read;
-use std::io::Stdout;
 use words::{say, say_document, say_hex, say_number, say_refused};
 
 // ---- writing
@@ -77,19 +77,23 @@ fn root(to: Stdout, doc: &[u8]) {
 
 // 2026-11-16 19:13:25, with a quarter of a second and as a date alone; the greatest date; 0000-00-00.
 fn dates(to: Stdout) {
-    packed(to, 
+    packed(
+        to,
         TimeType::Datetime,
         &[0x00, 0x00, 0x00, 0x59, 0x33, 0x61, 0xBB, 0x19],
     );
-    packed(to, 
+    packed(
+        to,
         TimeType::Timestamp,
         &[0x90, 0xD0, 0x03, 0x59, 0x33, 0x61, 0xBB, 0x19],
     );
-    packed(to, 
+    packed(
+        to,
         TimeType::Date,
         &[0x00, 0x00, 0x00, 0x00, 0x00, 0x60, 0xBB, 0x19],
     );
-    packed(to, 
+    packed(
+        to,
         TimeType::Datetime,
         &[0x3F, 0x42, 0x0F, 0xFB, 0x7E, 0xFF, 0xF3, 0x7E],
     );
@@ -98,20 +102,24 @@ fn dates(to: Stdout) {
 
 // 09:30:00; the greatest time and the least; a microsecond below zero; and later bytes are not read.
 fn times(to: Stdout) {
-    packed(to, 
+    packed(
+        to,
         TimeType::Time,
         &[0x00, 0x00, 0x00, 0x80, 0x97, 0x00, 0x00, 0x00],
     );
-    packed(to, 
+    packed(
+        to,
         TimeType::Time,
         &[0x3F, 0x42, 0x0F, 0xFB, 0x6E, 0x34, 0x00, 0x00],
     );
-    packed(to, 
+    packed(
+        to,
         TimeType::Time,
         &[0xC1, 0xBD, 0xF0, 0x04, 0x91, 0xCB, 0xFF, 0xFF],
     );
     packed(to, TimeType::Time, &[0xFF; 8]);
-    packed(to, 
+    packed(
+        to,
         TimeType::Time,
         &[0x00, 0x00, 0x00, 0x80, 0x97, 0x00, 0x00, 0x00, 0xFF],
     );
@@ -119,27 +127,33 @@ fn times(to: Stdout) {
 
 // 839 hours, minute 60, a million microseconds, a date with a clock part, a negative date, the least number, and too few bytes.
 fn refused(to: Stdout) {
-    packed(to, 
+    packed(
+        to,
         TimeType::Time,
         &[0x00, 0x00, 0x00, 0x00, 0x70, 0x34, 0x00, 0x00],
     );
-    packed(to, 
+    packed(
+        to,
         TimeType::Time,
         &[0x00, 0x00, 0x00, 0x00, 0x0F, 0x00, 0x00, 0x00],
     );
-    packed(to, 
+    packed(
+        to,
         TimeType::Time,
         &[0x40, 0x42, 0x0F, 0x00, 0x00, 0x00, 0x00, 0x00],
     );
-    packed(to, 
+    packed(
+        to,
         TimeType::Date,
         &[0x01, 0x00, 0x00, 0x00, 0x00, 0x60, 0xBB, 0x19],
     );
-    packed(to, 
+    packed(
+        to,
         TimeType::Date,
         &[0x00, 0x00, 0x00, 0x00, 0x00, 0xA0, 0x44, 0xE6],
     );
-    packed(to, 
+    packed(
+        to,
         TimeType::Datetime,
         &[0x00, 0x00, 0x00, 0x00, 0x00, 0x00, 0x00, 0x80],
     );
@@ -148,30 +162,42 @@ fn refused(to: Stdout) {
 
 // A datetime and a time in a document; one of which a byte is missing; and a decimal.
 fn documents(to: Stdout) {
-    root(to, &[
-        0x0F, 0x0C, 0x08, 0x00, 0x00, 0x00, 0x59, 0x33, 0x61, 0xBB, 0x19,
-    ]);
-    root(to, &[
-        0x0F, 0x0B, 0x08, 0xFF, 0xFF, 0xFF, 0xFF, 0xFF, 0xFF, 0xFF, 0xFF,
-    ]);
-    root(to, &[0x0F, 0x0A, 0x07, 0x00, 0x00, 0x00, 0x00, 0x00, 0x60, 0xBB]);
+    root(
+        to,
+        &[
+            0x0F, 0x0C, 0x08, 0x00, 0x00, 0x00, 0x59, 0x33, 0x61, 0xBB, 0x19,
+        ],
+    );
+    root(
+        to,
+        &[
+            0x0F, 0x0B, 0x08, 0xFF, 0xFF, 0xFF, 0xFF, 0xFF, 0xFF, 0xFF, 0xFF,
+        ],
+    );
+    root(
+        to,
+        &[0x0F, 0x0A, 0x07, 0x00, 0x00, 0x00, 0x00, 0x00, 0x60, 0xBB],
+    );
     root(to, &[0x0F, 0xF6, 0x04, 0x04, 0x02, 0x73, 0xDD]);
 }
 
 // A value that is no date: written, it is refused.
 fn unwritten(to: Stdout) {
     say(to, b"a time that is zero and negative: ");
-    say_bytes(to, MysqlTime {
-        year: 0,
-        month: 0,
-        day: 0,
-        hour: 0,
-        minute: 0,
-        second: 0,
-        second_part: 0,
-        neg: true,
-        time_type: TimeType::Time,
-    });
+    say_bytes(
+        to,
+        MysqlTime {
+            year: 0,
+            month: 0,
+            day: 0,
+            hour: 0,
+            minute: 0,
+            second: 0,
+            second_part: 0,
+            neg: true,
+            time_type: TimeType::Time,
+        },
+    );
     say(to, b"\n");
 }
 

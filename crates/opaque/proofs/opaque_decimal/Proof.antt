@@ -14,7 +14,7 @@ refuse-requires c κs = search rules
 
 returns : tie.Need-returns-then-doc-gt16777216
 returns c =
-    let a = c.before.before.before.args in
+    let a = c.args in
     c.refuse.ensures ∙ sym (too_long a.doc.now a.part a.keep c.before.if-doc-gt16777216.true)
 
 cast-start : tie.Need-overflow_cast-start
@@ -31,7 +31,7 @@ refuse-requires-2 c κs = search rules
 
 returns-2 : tie.Need-returns-then-doc-end
 returns-2 c =
-    let a = c.before.before.before.before.before.before.args in
+    let a = c.args in
     c.refuse-then-doc-end.ensures ∙ sym (past_the_end a.doc.now a.part a.keep c.before.before.before.before.if-doc-gt16777216.false c.before.if-doc-end.true)
 
 sub-read-packed : tie.Need-slice_bounds-read_packed-count
@@ -48,7 +48,7 @@ read-packed-requires c κs = search rules
 
 returns-3 : tie.Need-returns
 returns-3 c =
-    let a = c.before.before.before.before.before.before.before.args in
+    let a = c.args in
     let bytes = drop a.part.start a.doc.now in
     c.read_packed.ensures
     ∙ ap (λ (n : ℕ). read_packed (take n bytes) a.keep) (part_length a.part.start a.part.len)

@@ -6,7 +6,7 @@ use Rattle.records.proofs.decimal_in.Statement.{statement}
 use Rattle.records.proofs.decimal_in.Tie as tie
 
 returns : tie.Need-returns-then-xs-lt12
-returns c = of-fewer c.before.before.args.xs.now c.if-xs-lt12.true
+returns c = of-fewer c.args.xs.now c.if-xs-lt12.true
 
 shared-slice-read-wide : tie.Need-bounds-xs-0
 shared-slice-read-wide c = search rules
@@ -28,10 +28,10 @@ groups-in-requires c κs = search rules
 
 returns-2 : tie.Need-returns
 returns-2 c =
-    let w = c.before.before in
+    let w = c in
     let if1 = w.before.before.before.before.if-xs-lt12 in
-    let xs = w.before.before.before.before.before.before.args.xs.now in
-    of-twelve xs if1.false w.before.before.wide.ensures w.wide-2.ensures c.groups_in.ensures
+    let xs = w.args.xs.now in
+    of-twelve xs if1.false w.wide.ensures w.wide-2.ensures c.groups_in.ensures
 
 pub decimal_in_spec : {M : Type 1} → statement M
 decimal_in_spec =

@@ -43,7 +43,7 @@ loop-less c = omega arith
 loop-again : tie.Need-loop-k-preserved invariant-loop decreases-loop
 loop-again c =
     let l = c.before.before.loop-k in
-    let xs = c.before.before.before.args.xs.now in (
+    let xs = c.args.xs.now in (
       search rules,
       (
         simp length-set l.invariant.1.0,
@@ -54,7 +54,7 @@ loop-again c =
 returns : tie.Need-returns invariant-loop decreases-loop
 returns c =
     let l = c.before.loop-k in
-    let xs = c.before.before.args.xs.now in
+    let xs = c.args.xs.now in
     let e : l.k ≡ 9 = omega arith in
     filled 9 (λ j. get_or xs (j + 3) 0) l.groups l.invariant.1.0 (λ j h. l.invariant.1.1 j (rw e h))
 

@@ -15,7 +15,7 @@ widen-requires c κs = search rules
 
 returns-2 : tie.Need-returns-then-a-ne0
 returns-2 c =
-    let a = c.before.before.before.before.before.args in
+    let a = c.args in
     let if1 = c.before.before.before.if-answer-lt12 in
     let if2 = c.before.if-a-ne0 in
     stores-none 12 _ if1.false (told-refused a.a if2.true) c.widen.ensures
@@ -28,10 +28,10 @@ same_length c = search rules
 
 returns-3 : tie.Need-returns
 returns-3 c =
-    let a = c.before.before.before.before.before.before.before.before.before.args in
+    let a = c.args in
     let if1 = c.before.before.before.before.before.before.before.if-answer-lt12 in
     let if2 = c.before.before.before.before.before.if-a-ne0 in
-    let put-decimal = c.before.before.put_decimal in
+    let put-decimal = c.put_decimal in
     stores 12 _ if1.false (told-accepted a.a if2.false) refl put-decimal.ensures
 
 pub put_answer_spec : {M : Type 1} → statement M

@@ -30,15 +30,15 @@ put-groups-requires : tie.Need-put_groups-requires
 put-groups-requires c κs = search rules
 
 same_length : tie.Need-shape_of-answer
-same_length c = c.before.before.put_groups.auto.answer ∙ simp length-set
+same_length c = c.put_groups.auto.answer ∙ simp length-set
 
 returns : tie.Need-returns
 returns c =
-    let w = c.before.before.before.before.before in
-    let a = w.before.before.before.before.args in
+    let w = c in
+    let a = w.args in
     let e : length a.d.groups ≡ 9 = search rules in
-    c.before.before.put_groups.ensures
-    ∙ record-laid a.d a.answer.now e w.before.before.before.before.requires w.sign_number.ensures
+    c.put_groups.ensures
+    ∙ record-laid a.d a.answer.now e w.requires w.sign_number.ensures
 
 pub put_decimal_spec : {M : Type 1} → statement M
 put_decimal_spec =

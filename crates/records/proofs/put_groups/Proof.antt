@@ -43,7 +43,7 @@ loop-less c = omega arith
 
 loop-again : tie.Need-loop-k-preserved invariant-loop decreases-loop
 loop-again c =
-    let a = c.before.before.args in
+    let a = c.args in
     let l = c.before.loop-k in (
       omega arith,
       (
@@ -59,7 +59,7 @@ same_length c = search rules
 
 returns : tie.Need-returns invariant-loop decreases-loop
 returns c =
-    let a = c.before.before.args in
+    let a = c.args in
     let l = c.before.loop-k in
     let e : l.k ≡ 9 = omega arith in
     l.invariant.1.1 ∙ ap (paste a.answer.now 3 a.groups) e

@@ -8,39 +8,39 @@ use borrow.Author.Rules.{rules}
 use Rattle.relay.proofs.bratthelm_decimal_write_bin.Statement.{statement}
 use Rattle.relay.proofs.bratthelm_decimal_write_bin.Tie as tie
 
-returns : tie.Need-returns
+returns : tie.Need-returns-then-answer-lt1
 unfolding written_leaves
-returns c = (too_short 1 _ c.if1.true, as_it_was 1 _ _ _ c.if1.true refl)
+returns c = (too_short 1 _ c.if-answer-lt1.true, as_it_was 1 _ _ _ c.if-answer-lt1.true refl)
 
-decimal-in-requires : tie.Need-decimal-in-requires
+decimal-in-requires : tie.Need-decimal_in-d-requires
 decimal-in-requires c κs = tt
 
-write-bin-requires : tie.Need-write-bin-requires
+write-bin-requires : tie.Need-write_bin-requires
 write-bin-requires c κs = tt
 
-put-counted-requires : tie.Need-put-counted-requires
+put-counted-requires : tie.Need-put_counted-requires
 put-counted-requires c κs = tt
 
-same_length : tie.Need-same-length
+same_length : tie.Need-shape_of-bytes
 same_length c = search rules
 
-same-length-2 : tie.Need-same-length-2
+same-length-2 : tie.Need-shape_of-answer
 same-length-2 c = search rules
 
-returns-2 : tie.Need-returns-2
+returns-2 : tie.Need-returns
 returns-2 c =
-    let a = c.before.before.before.before.before.before.before.before.before.before.before.before.before.args in
-    let if1 = c.before.before.before.before.before.before.before.before.before.if1 in
-    let is = c.before.before.before.before.before.before.before.before.decimal-in.ensures in
-    let write-bin = c.before.before.before.before.before.write-bin in
+    let a = c.args in
+    let if1 = c.if-answer-lt1 in
+    let is = c.decimal_in-d.ensures in
+    let write-bin = c.write_bin in
     let xs = a.decimal.now in
     let bytes = a.bytes.now in (
-      same-told (written-told xs bytes is write-bin.result write-bin.ensures.0) c.before.before.put-counted.ensures,
+      same-told (written-told xs bytes is write-bin.result write-bin.ensures.0) c.put_counted.ensures,
       written-left xs bytes is a.answer.now if1.false write-bin.ensures.1,
     )
 
-pub bratthelm-decimal-write-bin-spec : {M : Type 1} → statement M
-bratthelm-decimal-write-bin-spec =
+pub bratthelm_decimal_write_bin_spec : {M : Type 1} → statement M
+bratthelm_decimal_write_bin_spec =
     tie.close
     (tie.spec
     returns

@@ -10,23 +10,23 @@ use Rattle.relay.proofs.bratthelm_root.Tie as tie
 deserialize-requires : tie.Need-deserialize-requires
 deserialize-requires c κs = tt
 
-found-of-requires : tie.Need-found-of-requires
+found-of-requires : tie.Need-found_of-requires
 found-of-requires c κs = tt
 
-put-found-requires : tie.Need-put-found-requires
+put-found-requires : tie.Need-put_found-requires
 put-found-requires c κs = tt
 
-same_length : tie.Need-same-length
-same_length c = c.before.before.put-found.auto.0
+same_length : tie.Need-shape_of-answer
+same_length c = c.put_found.auto.answer
 
 returns : tie.Need-returns
 returns c =
-    let deserialize = c.before.before.before.before.deserialize in
-    let found_of = c.before.before.before.found_of in
-    let put-found = c.before.before.put-found in
+    let deserialize = c.deserialize in
+    let found_of = c.found_of in
+    let put-found = c.put_found in
     same-told (ap value_told (found_of.ensures ∙ ap read_said deserialize.ensures)) put-found.ensures
 
-pub bratthelm-root-spec : {M : Type 1} → statement M
-bratthelm-root-spec =
+pub bratthelm_root_spec : {M : Type 1} → statement M
+bratthelm_root_spec =
     tie.close
     (tie.spec deserialize-requires found-of-requires put-found-requires same_length returns)

@@ -6,12 +6,12 @@ use Rattle.surface.proofs.Documents.{no_kind, a-kind}
 use Rattle.relay.proofs.view_by.Statement.{statement}
 use Rattle.relay.proofs.view_by.Tie as tie
 
-returns : tie.Need-returns
-returns c = let a = c.before.args in no_kind a.code a.start a.size a.count c.if1.true
+returns : tie.Need-returns-then-code-gt3
+returns c = let a = c.args in no_kind a.code a.start a.size a.count c.if-code-gt3.true
 
-returns-2 : tie.Need-returns-2
+returns-2 : tie.Need-returns
 unfolding kind_by
-returns-2 c = let a = c.before.args in a-kind a.code a.start a.size a.count c.if1.false refl
+returns-2 c = let a = c.args in a-kind a.code a.start a.size a.count c.if-code-gt3.false refl
 
-pub view-by-spec : {M : Type 1} → statement M
-view-by-spec = tie.close (tie.spec returns returns-2)
+pub view_by_spec : {M : Type 1} → statement M
+view_by_spec = tie.close (tie.spec returns returns-2)

@@ -11,7 +11,7 @@ pub loop-i-init : goal.loop-i-init
 loop-i-init c = record {
   within = omega arith;
   small = omega arith;
-  value = some-digits c.args.text.now c.if-text-eq0.false
+  value = some-digits c.args.text.now c.if-text-eq0.false;
 }
 
 pub returns-then-b-lt48 : goal.returns-then-b-lt48
@@ -38,7 +38,7 @@ loop-i-preserved c =
     record {
       within = omega arith;
       small = omega arith;
-      value = rw c.wide.ensures (l.invariant.value ∙ more)
+      value = rw c.wide.ensures (l.invariant.value ∙ more);
     }
 
 pub returns : goal.returns

@@ -6,7 +6,7 @@ abbrev pub invariant-loop-i : goal.invariant-loop-i
 invariant-loop-i l = record {
   within : l.i ≤ length l.text;
   small : l.n < 4294967296;
-  value : number_of l.text ≡ number_from l.n (drop l.i l.text)
+  value : number_of l.text ≡ number_from l.n (drop l.i l.text);
 }
 
 abbrev pub decreases-loop-i : goal.decreases-loop-i

@@ -3,8 +3,6 @@
 use Rattle.root_event.proofs.Cases.{empty-first, some_first}
 use Rattle.root_event.proofs.first_byte.Statement.{statement}
 use Rattle.root_event.proofs.first_byte.Tie as tie
-use Rattle.root_event.proofs.first_byte.Reads as reads
-use Rattle.root_event.proofs.first_byte.Lts as lts
 
 returns : tie.Need-returns-then-doc-eq0
 returns c = empty-first _ c.if-doc-eq0.true

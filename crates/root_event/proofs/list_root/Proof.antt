@@ -4,10 +4,6 @@ use Rattle.root_event.proofs.Cases.{root-value, root-refused}
 use borrow.Author.Rules.{rules}
 use Rattle.root_event.proofs.list_root.Statement.{statement}
 use Rattle.root_event.proofs.list_root.Tie as tie
-use Rattle.root_event.proofs.list_root.Reads as reads
-use Rattle.root_event.proofs.list_root.Lts as lts
-use Rattle.jsonb.proofs.deserialize.Reads as deserialize-reads
-use Rattle.root_event.proofs.list_value.Reads as list-value-reads
 
 deserialize-requires : tie.Need-deserialize-requires
 deserialize-requires c κs = search rules

@@ -5,13 +5,6 @@ use Rattle.root_event.proofs.Cases.{value-breaks, value-listed}
 use borrow.Author.Rules.{rules}
 use Rattle.root_event.proofs.list_value.Statement.{statement}
 use Rattle.root_event.proofs.list_value.Tie as tie
-use Rattle.root_event.proofs.list_value.Reads as reads
-use Rattle.root_event.proofs.list_value.Lts as lts
-use Rattle.root_event.proofs.first_byte.Reads as first-byte-reads
-use Rattle.root_event.proofs.put_value.Reads as put-value-reads
-use Rattle.texts.proofs.break_or.Reads as break-or-reads
-use Rattle.texts.proofs.is_text.Reads as is-text-reads
-use Rattle.root_event.proofs.string_of.Reads as string-of-reads
 
 string-of-requires : tie.Need-string_of-string-requires
 string-of-requires c κs = search rules

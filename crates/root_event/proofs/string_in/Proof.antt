@@ -5,8 +5,6 @@ use Rattle.root_event.specs.Root.{string_in}
 use borrow.Author.Rules.{rules}
 use Rattle.root_event.proofs.string_in.Statement.{statement}
 use Rattle.root_event.proofs.string_in.Tie as tie
-use Rattle.root_event.proofs.string_in.Reads as reads
-use Rattle.root_event.proofs.string_in.Lts as lts
 
 enum_told : tie.Need-enum_told-1
 enum_told c = search rules

@@ -5,9 +5,6 @@ use Rattle.root_event.specs.Root.{string_of}
 use borrow.Author.Rules.{rules}
 use Rattle.root_event.proofs.string_of.Statement.{statement}
 use Rattle.root_event.proofs.string_of.Tie as tie
-use Rattle.root_event.proofs.string_of.Reads as reads
-use Rattle.root_event.proofs.string_of.Lts as lts
-use Rattle.root_event.proofs.string_in.Reads as string-in-reads
 
 enum-known-x : tie.Need-enum_known-x
 enum-known-x c = search rules
