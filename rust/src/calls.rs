@@ -1,5 +1,5 @@
-//! The functions of include/bratthelm.h over slices. Each returns a refusal's number, or 0, and stores its row of numbers at the front of `answer`, where it has
-//! one; the header says what the rows are. All that is `unsafe` in this crate is here.
+//! The functions of include/bratthelm.h over slices. Each returns a refusal's number, or 0, and stores its row of numbers at the front of `answer`; the
+//! header says what the rows are. All that is `unsafe` in this crate is here.
 //!
 //! Why each call is sound. The header asks two things of its caller. A pointer that is not null and is valid for as many items as the length after
 //! it says: both come from one slice, which is never null, not even where it is empty, and whose items are all initialised. And that what is written to
@@ -78,8 +78,6 @@ mod archive {
             answer: *mut u32,
             answer_len: usize,
         ) -> u32;
-        pub fn bratthelm_time_read_packed(bytes: *const u8, bytes_len: usize, time_type: u32, answer: *mut u32, answer_len: usize) -> u32;
-        pub fn bratthelm_time_write_packed(time: *const u32, time_len: usize, bytes: *mut u8, bytes_len: usize) -> u32;
     }
 }
 
@@ -149,16 +147,4 @@ pub fn decimal_print(decimal: &[u32], text: &mut [u8], answer: &mut [u32]) -> u3
 pub fn decimal_compare(left: &[u32], right: &[u32], answer: &mut [u32]) -> u32 {
     // SAFETY: as in `root`; `left` and `right` are only read, so that they may be the same.
     unsafe { archive::bratthelm_decimal_compare(left.as_ptr(), left.len(), right.as_ptr(), right.len(), answer.as_mut_ptr(), answer.len()) }
-}
-
-/// The date or time in eight bytes, of a column type: a row of a date or time.
-pub fn time_read_packed(bytes: &[u8], time_type: u32, answer: &mut [u32]) -> u32 {
-    // SAFETY: as in `root`; the number may be any.
-    unsafe { archive::bratthelm_time_read_packed(bytes.as_ptr(), bytes.len(), time_type, answer.as_mut_ptr(), answer.len()) }
-}
-
-/// Writes a date or time to the first eight bytes of `bytes`. There is no row.
-pub fn time_write_packed(time: &[u32], bytes: &mut [u8]) -> u32 {
-    // SAFETY: as in `root`, with `bytes` for `answer`; the numbers of `time` may be any and as many or few as they are.
-    unsafe { archive::bratthelm_time_write_packed(time.as_ptr(), time.len(), bytes.as_mut_ptr(), bytes.len()) }
 }

@@ -37,7 +37,7 @@ pub struct JsonbString<'a>(&'a [u8]);
 #[derive(Debug, Clone, Copy, PartialEq, Eq)]
 pub struct ObjectKey<'a>(&'a [u8]);
 
-/// A value of a column type that JSON has not: a decimal, a date or time ([`TimeType::from_column`](crate::TimeType::from_column) tells), or another.
+/// A value of a column type that JSON has not, as a decimal or a date.
 #[derive(Debug, Clone, Copy, PartialEq, Eq)]
 pub struct OpaqueValue<'a> {
     value_type: u8,

@@ -1,11 +1,11 @@
-//! MySQL's binary JSON, packed decimals, and packed dates and times, by proved code.
+//! MySQL's binary JSON and packed decimals, read by proved code.
 //!
 //! Safe functions over the archive librelay.a, which `./archive` builds of proved crates; build.rs says how it is found. Nothing here allocates.
-//! What is a type of mysql_common has its name there: [`Decimal`], [`MysqlTime`], [`Value`], `element_count`, `elem_at`, `key_at`, `read_packed` and so on. Bytes
-//! are lent as slices, text and bytes are written to lent slices, and every error is a [`Refusal`] with its number.
+//! What is a type of mysql_common has its name there: [`Decimal`], [`Value`], `element_count`, `elem_at`, `key_at`, `read_packed` and so on. Bytes are lent as
+//! slices, text and digit bytes are written to lent slices, and every error is a [`Refusal`] with its number.
 //!
 //! ```
-//! use bratthelm::{walk, Decimal, MysqlTime, TimeType, Value, EVENT_LEN};
+//! use bratthelm::{walk, Decimal, Value, EVENT_LEN};
 //!
 //! # fn main() -> Result<(), Box<dyn std::error::Error>> {
 //! let doc = [0x00, 0x01, 0x00, 0x11, 0x00, 0x0B, 0x00, 0x01, 0x00, 0x0C, 0x0C, 0x00, 0x61, 0x04, 0x5A, 0x6F, 0xC3, 0xAB];
@@ -22,8 +22,6 @@
 //! let price = Decimal::read_packed(&[0x04, 0x02, 0x8C, 0x22], false)?;
 //! assert_eq!(price.to_string(), "12.34");
 //! assert!(price.compare(&Decimal::parse_str_bytes(b"100")?)?.is_lt());
-//! let deadline = MysqlTime::read_packed(&[0x20, 0xA1, 0x07, 0xEB, 0x38, 0x61, 0xBB, 0x19], TimeType::Datetime)?;
-//! assert_eq!((deadline.year, deadline.month, deadline.day, deadline.hour), (2026, 11, 16, 19));
 //! # Ok(())
 //! # }
 //! ```
@@ -34,11 +32,9 @@ pub mod calls;
 pub mod decimal;
 pub mod jsonb;
 mod refusal;
-pub mod time;
 mod walk;
 
 pub use decimal::Decimal;
 pub use jsonb::{ComplexValue, Value};
 pub use refusal::Refusal;
-pub use time::{MysqlTime, TimeType};
 pub use walk::{walk, Event, Span, Stopped, Walk, EVENT_LEN};

@@ -43,15 +43,11 @@ pub enum Refusal {
     Room = 25,
     /// The numbers are no decimal.
     Record = 26,
-    /// A field of a date or time is out of range.
-    TimeField = 30,
-    /// The bytes of a date or time are fewer than eight.
-    TimeShort = 31,
 }
 
 impl Refusal {
     /// All refusals, by their numbers.
-    pub const ALL: [Refusal; 22] = [
+    pub const ALL: [Refusal; 20] = [
         Refusal::Document,
         Refusal::Type,
         Refusal::Cut,
@@ -72,8 +68,6 @@ impl Refusal {
         Refusal::Digits,
         Refusal::Room,
         Refusal::Record,
-        Refusal::TimeField,
-        Refusal::TimeShort,
     ];
 
     /// Its number.
@@ -109,8 +103,6 @@ impl Refusal {
             Refusal::Digits => "the text has over 65 digits, or over 30 after the point",
             Refusal::Room => "the output is shorter than the result",
             Refusal::Record => "the record is no decimal",
-            Refusal::TimeField => "a field of a date or time is out of range",
-            Refusal::TimeShort => "the bytes of a date or time are fewer than eight",
         }
     }
 }

@@ -1,9 +1,7 @@
-//! What no safe type of the crate can ask: rows that are lent too few numbers, decimals, dates and times of too few numbers, other types of time, keys of arrays.
+//! What no safe type of the crate can ask: rows that are lent too few numbers, decimals of too few numbers, keys of arrays.
 use bratthelm::calls;
 
 const LIST: [u8; 11] = [0x02, 0x02, 0x00, 0x0A, 0x00, 0x04, 0x01, 0x00, 0x05, 0xFE, 0xFF];
-const HOUR: [u8; 8] = [0x00, 0x00, 0x00, 0x00, 0x10, 0x00, 0x00, 0x00];
-const MINUS_AN_HOUR: [u8; 8] = [0x00, 0x00, 0x00, 0x00, 0xF0, 0xFF, 0xFF, 0xFF];
 const PRICE: [u32; 12] = [2, 2, 0, 12, 340_000_000, 0, 0, 0, 0, 0, 0, 0];
 
 /// A function that takes so many numbers: with fewer it is refused by 25 and they stay, with more it leaves those behind.
@@ -34,7 +32,6 @@ fn short_answers() {
     room(1, |answer| calls::decimal_write_bin(&PRICE, &mut [0; 36], answer));
     room(1, |answer| calls::decimal_print(&PRICE, &mut [0; 67], answer));
     room(1, |answer| calls::decimal_compare(&PRICE, &PRICE, answer));
-    room(9, |answer| calls::time_read_packed(&HOUR, 11, answer));
 }
 
 #[test]
@@ -57,46 +54,6 @@ fn room_comes_first() {
     assert_eq!(calls::decimal_read_bin(&[], 99, 99, 0, &mut [0; 11]), 25);
     assert_eq!(calls::decimal_read_packed(&[], 0, &mut [0; 11]), 25);
     assert_eq!(calls::decimal_compare(&[], &[], &mut []), 25);
-    assert_eq!(calls::time_read_packed(&[], 8, &mut [0; 8]), 25);
-}
-
-#[test]
-fn times_of_other_types() {
-    let mut answer = [7; 9];
-    for time_type in (0..300).chain([u32::MAX]) {
-        let known = matches!(time_type, 7 | 10..=12);
-        // The type is looked at before the bytes.
-        assert_eq!(calls::time_read_packed(&[], time_type, &mut answer), if known { 31 } else { 30 });
-        assert_eq!(calls::time_read_packed(&[0; 7], time_type, &mut answer), if known { 31 } else { 30 });
-        assert_eq!(answer, [7; 9]);
-        assert_eq!(calls::time_read_packed(&[0; 8], time_type, &mut [7; 9]), if known { 0 } else { 30 });
-        let (mut bytes, time) = ([7; 10], [0, 0, 0, 0, 0, 0, 0, 0, time_type]);
-        assert_eq!(calls::time_write_packed(&time, &mut bytes), if known { 0 } else { 30 });
-        assert_eq!(bytes, if known { [0, 0, 0, 0, 0, 0, 0, 0, 7, 7] } else { [7; 10] });
-    }
-}
-
-#[test]
-fn times_of_too_few_numbers_or_bytes() {
-    let mut bytes = [7; 10];
-    let hour = [0, 0, 0, 1, 0, 0, 0, 0, 11];
-    for len in 0..9 {
-        assert_eq!(calls::time_write_packed(&hour[..len], &mut bytes), 30);
-    }
-    for len in 0..8 {
-        assert_eq!(calls::time_write_packed(&hour, &mut bytes[..len]), 25);
-        // 30 comes before 25.
-        assert_eq!(calls::time_write_packed(&hour[..8], &mut bytes[..len]), 30);
-        assert_eq!(calls::time_write_packed(&[0, 0, 0, 839, 0, 0, 0, 0, 11], &mut bytes[..len]), 30);
-    }
-    assert_eq!(bytes, [7; 10]);
-    // More numbers than nine are not looked at.
-    assert_eq!(calls::time_write_packed(&[0, 0, 0, 1, 0, 0, 0, 0, 11, 9], &mut bytes), 0);
-    assert!(bytes[..8] == HOUR && bytes[8..] == [7; 2]);
-    for sign in [1, 2, u32::MAX] {
-        assert_eq!(calls::time_write_packed(&[0, 0, 0, 1, 0, 0, 0, sign, 11], &mut bytes), 0);
-        assert!(bytes[..8] == MINUS_AN_HOUR && bytes[8..] == [7; 2]);
-    }
 }
 
 #[test]

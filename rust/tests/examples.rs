@@ -1,7 +1,7 @@
 //! Document 01's examples, and each refusal of its table, asked of the archive. Two things cannot be asked here: the length 4,026,531,840 itself, since no
 //! document is as long, and what the program jsonb-list prints.
 use bratthelm::jsonb::NEWDECIMAL;
-use bratthelm::{walk, Decimal, Event, MysqlTime, Refusal, Stopped, TimeType, Value, EVENT_LEN};
+use bratthelm::{walk, Decimal, Event, Refusal, Stopped, Value, EVENT_LEN};
 use std::cmp::Ordering::{Equal, Greater, Less};
 
 const LIST: &str = "02 02 00 0A 00 04 01 00 05 FE FF";
@@ -530,152 +530,6 @@ fn display_meets_a_width_and_leaves_no_digit_out() {
     assert_eq!(stopped.to_string(), "9: a key or a string is not UTF-8, at byte 17, after 1 events");
 }
 
-/// A date or time by its fields, from the year to the microseconds.
-fn moment(time_type: TimeType, fields: [u32; 7], neg: bool) -> MysqlTime {
-    let [year, month, day, hour, minute, second, second_part] = fields;
-    MysqlTime { year, month, day, hour, minute, second, second_part, neg, time_type }
-}
-
-/// What is read from the bytes must be this, and written again give them back.
-fn both_ways(hex: &str, time: MysqlTime) {
-    let packed = bytes(hex);
-    assert_eq!(MysqlTime::read_packed(&packed, time.time_type), Ok(time), "{hex}");
-    assert_eq!(time.to_packed().unwrap()[..], packed);
-    let mut out = [7; 10];
-    assert_eq!(time.write_packed(&mut out), Ok(8));
-    assert!(out[..8] == packed && out[8..] == [7; 2]);
-    let mut out = [7; 7];
-    assert_eq!(time.write_packed(&mut out), Err(Refusal::Room));
-    assert_eq!(out, [7; 7]);
-}
-
-#[test]
-fn dates_and_times() {
-    both_ways("20 A1 07 EB 38 61 BB 19", moment(TimeType::Datetime, [2026, 11, 16, 19, 35, 43, 500_000], false));
-    both_ways("20 A1 07 EB 38 61 BB 19", moment(TimeType::Timestamp, [2026, 11, 16, 19, 35, 43, 500_000], false));
-    both_ways("00 00 00 00 00 60 BB 19", moment(TimeType::Date, [2026, 11, 16, 0, 0, 0, 0], false));
-    both_ways("00 00 00 00 10 00 00 00", moment(TimeType::Time, [0, 0, 0, 1, 0, 0, 0], false));
-    both_ways("00 00 00 00 F0 FF FF FF", moment(TimeType::Time, [0, 0, 0, 1, 0, 0, 0], true));
-    both_ways("FF FF FF FF FF FF FF FF", moment(TimeType::Time, [0, 0, 0, 0, 0, 0, 1], true));
-    // The greatest, and of a time the least.
-    both_ways("3F 42 0F FB 7E FF F3 7E", moment(TimeType::Datetime, [9999, 12, 31, 23, 59, 59, 999_999], false));
-    both_ways("3F 42 0F FB 7E FF F3 7E", moment(TimeType::Timestamp, [9999, 12, 31, 23, 59, 59, 999_999], false));
-    both_ways("00 00 00 00 00 FE F3 7E", moment(TimeType::Date, [9999, 12, 31, 0, 0, 0, 0], false));
-    both_ways("3F 42 0F FB 6E 34 00 00", moment(TimeType::Time, [0, 0, 0, 838, 59, 59, 999_999], false));
-    both_ways("C1 BD F0 04 91 CB FF FF", moment(TimeType::Time, [0, 0, 0, 838, 59, 59, 999_999], true));
-    // 0000-02-31, and zero.
-    both_ways("00 00 00 00 00 BE 00 00", moment(TimeType::Date, [0, 2, 31, 0, 0, 0, 0], false));
-    for time_type in TimeType::ALL {
-        both_ways("00 00 00 00 00 00 00 00", moment(time_type, [0; 7], false));
-        assert_eq!(moment(time_type, [0; 7], true).to_packed(), Err(Refusal::TimeField));
-        // Fewer than eight bytes, and more.
-        for len in 0..8 {
-            assert_eq!(MysqlTime::read_packed(&[0xFF; 8][..len], time_type), Err(Refusal::TimeShort));
-        }
-        assert_eq!(MysqlTime::read_packed(&bytes("00 00 00 00 00 00 00 00 FF"), time_type), Ok(moment(time_type, [0; 7], false)));
-    }
-}
-
-#[test]
-fn fields_out_of_range() {
-    use TimeType::{Date, Datetime, Time, Timestamp};
-    // The least and the greatest number, of any type.
-    for time_type in TimeType::ALL {
-        for packed in [i64::MIN, i64::MIN + 1, i64::MAX] {
-            assert_eq!(MysqlTime::read_packed(&packed.to_le_bytes(), time_type), Err(Refusal::TimeField));
-        }
-    }
-    // 1,000,000 microseconds, 60 seconds, 60 minutes, 839 and 1,024 hours; 24 hours and the year 10,000 of a date.
-    for (time_type, packed) in [
-        (Time, 1_000_000),
-        (Time, 60 << 24),
-        (Time, 60 << 30),
-        (Time, 839 << 36),
-        (Time, 1024 << 36),
-        (Time, -(839 << 36)),
-        (Datetime, 1_000_000),
-        (Datetime, 60 << 24),
-        (Datetime, 60 << 30),
-        (Datetime, 24 << 36),
-        (Datetime, 130_000 << 46),
-        (Timestamp, 24 << 36),
-        (Date, 130_000 << 46),
-        // A clock part in a date, and negative dates.
-        (Date, 1),
-        (Date, 1 << 24),
-        (Date, 1 << 30),
-        (Date, 1 << 36),
-        (Date, -(1 << 41)),
-        (Datetime, -1),
-        (Timestamp, -1),
-    ] {
-        assert_eq!(MysqlTime::read_packed(&i64::to_le_bytes(packed), time_type), Err(Refusal::TimeField), "{time_type:?} {packed}");
-    }
-    // Each field of the greatest value, one more; and a sign. Months and days have no such number when they are read.
-    for (time_type, greatest) in [
-        (Timestamp, [9999, 12, 31, 23, 59, 59, 999_999]),
-        (Date, [9999, 12, 31, 0, 0, 0, 0]),
-        (Time, [0, 0, 0, 838, 59, 59, 999_999]),
-        (Datetime, [9999, 12, 31, 23, 59, 59, 999_999]),
-    ] {
-        assert!(moment(time_type, greatest, false).to_packed().is_ok());
-        assert_eq!(moment(time_type, greatest, true).to_packed().is_ok(), time_type == Time);
-        for at in 0..7 {
-            for value in [greatest[at] + 1, u32::MAX] {
-                let mut fields = greatest;
-                fields[at] = value;
-                // 30 comes before 25, and nothing is written.
-                let mut out = [7; 8];
-                assert_eq!(moment(time_type, fields, false).write_packed(&mut out), Err(Refusal::TimeField));
-                assert_eq!(moment(time_type, fields, false).write_packed(&mut out[..7]), Err(Refusal::TimeField));
-                assert_eq!(out, [7; 8]);
-            }
-        }
-    }
-}
-
-/// Whatever is read is written back as the same bytes: numbers around every bit, of both signs.
-#[test]
-fn what_is_read_is_written_back() {
-    for time_type in TimeType::ALL {
-        let mut read = 0;
-        for bit in 0..63 {
-            for packed in [-1, 0, 1].into_iter().flat_map(|step| [(1i64 << bit) + step, -(1i64 << bit) + step]) {
-                match MysqlTime::read_packed(&packed.to_le_bytes(), time_type) {
-                    Ok(time) => {
-                        assert_eq!(time.to_packed(), Ok(packed.to_le_bytes()));
-                        assert_eq!(time.neg, packed < 0);
-                        read += 1;
-                    }
-                    Err(refusal) => assert_eq!(refusal, Refusal::TimeField),
-                }
-            }
-        }
-        assert!(read > 20, "{time_type:?}: {read}");
-    }
-}
-
-#[test]
-fn opaque_times() {
-    for (column, time_type) in (0..=255).map(|column| (column, TimeType::from_column(column))) {
-        assert_eq!(time_type.is_some(), matches!(column, 7 | 10..=12));
-        assert_eq!(time_type.map_or(column, TimeType::column), column);
-    }
-    for time_type in TimeType::ALL {
-        let mut doc = vec![0x0F, time_type.column(), 8];
-        doc.extend(if time_type == TimeType::Time { bytes("00 00 00 00 10 00 00 00") } else { bytes("00 00 00 00 00 60 BB 19") });
-        let fields = if time_type == TimeType::Time { [0, 0, 0, 1, 0, 0, 0] } else { [2026, 11, 16, 0, 0, 0, 0] };
-        let Ok(Value::Opaque(x)) = Value::deserialize(&doc) else { panic!("an opaque value") };
-        assert_eq!(TimeType::from_column(x.value_type()), Some(time_type));
-        assert_eq!(MysqlTime::read_packed(x.data_raw(), time_type), Ok(moment(time_type, fields, false)));
-        assert_eq!(walked(&doc, 1), (vec![[15, 0, 0, 0, 0, 3, 8, time_type.column().into(), 0]], Ok(1)));
-        // Seven bytes of data: a value of the document, and no time.
-        doc[2] = 7;
-        let Ok(Value::Opaque(x)) = Value::deserialize(&doc) else { panic!("an opaque value") };
-        assert_eq!(MysqlTime::read_packed(x.data_raw(), time_type), Err(Refusal::TimeShort));
-    }
-}
-
 /// The numbers and names are those of the header.
 #[test]
 fn refusals_are_the_header_s() {
@@ -684,14 +538,14 @@ fn refusals_are_the_header_s() {
     for line in header.lines() {
         if let Some((name, rest)) = line.trim().strip_prefix("BRATTHELM_ERR_").and_then(|rest| rest.split_once(" = ")) {
             let digits: String = rest.chars().take_while(char::is_ascii_digit).collect();
-            found.push((name.replace('_', ""), digits.parse().unwrap()));
+            found.push((name.to_string(), digits.parse().unwrap()));
         }
     }
     let ours: Vec<_> = Refusal::ALL.iter().map(|refusal| (format!("{refusal:?}").to_uppercase(), refusal.number())).collect();
     assert_eq!(ours, found);
     for number in 0..300 {
         let refusal = Refusal::from_number(number);
-        assert_eq!(refusal.is_some(), matches!(number, 1..=13 | 20..=26 | 30 | 31));
+        assert_eq!(refusal.is_some(), matches!(number, 1..=13 | 20..=26));
         assert_eq!(refusal.map_or(number, Refusal::number), number);
     }
 }

@@ -2,7 +2,7 @@
 -- `Compares` and `Prints` are what the contracts of the two functions say of a call (proofs/Called.antt), so the statements hold of the functions' own answers.
 -- They are said of all records where they hold of all: a refusal stays one when it is swapped or reversed, and is not less or equal, so that nothing carries
 -- through it. Where records must be well formed, those that were read are (`Formed` of decimal_laws). That a record has nine groups a caller knows by its type:
--- `search rules` finds it. proofs/Order.antt proves each, `OneHolds` as `one-Holds`.
+-- `search rules` finds it. proofs/Order.antt proves each, `OneHolds` as `one_holds`.
 -- Assumes nothing.
 use Rattle.std.specs.Prelude.{ℕ, ◌≡◌, Bool, true, false, cond, not, ◌↔◌, List, length, take}
 use Rattle.groups.specs.Numbers.{both}

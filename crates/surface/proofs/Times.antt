@@ -4,7 +4,7 @@ use mathlib.Core.Path.{◌≡◌, ap, ◌∙◌}
 use mathlib.Core.List.{List, [], ◌∷◌, ◌++◌}
 use Prim.Native.Nat.{ℕ, ◌≤◌}
 use lib.ListN.{length, take, drop}
-use Rattle.refusal.specs.Told.{Told, answer, refusal}
+use Rattle.refusal.specs.Told.{answer}
 use Rattle.raw.proofs.Values.{Bytes}
 use Rattle.time.specs.Answers.{type_of, numbers}
 use Rattle.time.specs.declared.MysqlTime.{MysqlTime}

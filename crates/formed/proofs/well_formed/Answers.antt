@@ -3,8 +3,9 @@
 use mathlib.Core.Path.{sym, ◌∙◌}
 use Rattle.groups.specs.Sign.{signed_nought}
 use Rattle.groups.proofs.Sign.{sign-wrong, sign-right}
+use Rattle.std.proofs.Common.{◌≡◌, false, arith}
+use Rattle.std.proofs.lemmas.Grind.{common_steps}
 use Rattle.formed.proofs.well_formed.Goals as goal
-use Rattle.formed.proofs.well_formed.Goals.{else-negative-via-then-negative+else-is_zero, else-negative-via-else-negative}
 
 pub returns-then-is_zero : goal.returns-then-is_zero
 unfolding signed_nought
@@ -13,8 +14,5 @@ returns-then-is_zero c = sym (sign-wrong _ _ _ _ (simp (c.if-negative.true, sym 
 pub returns : goal.returns
 unfolding signed_nought
 returns c =
-    c.well_groups.ensures
-    ∙ sym (sign-right _ _ _ _ (elim c.else-negative.branch [
-      | else-negative-via-then-negative+else-is_zero w ↦ simp (w.if-negative.true, sym w.is_zero.ensures ∙ w.if-is_zero.false)
-      | else-negative-via-else-negative w ↦ simp w.if-negative.false
-    ]))
+    let e : signed_nought c.args.negative c.args.groups.now ≡ false = grind (arith, common_steps) in
+    c.well_groups.ensures ∙ sym (sign-right _ _ _ _ e)
