@@ -1,14 +1,12 @@
 /*
- * Bratthelm for C: MySQL's binary JSON, read by position and walked as a whole, its packed decimals, read, written, printed, parsed and
- * compared, and its packed dates and times, read and written, by code that is proved. The archive is librelay.a, which './archive' writes; it
- * links into x86-64 Linux programs.
+ * Bratthelm for C: MySQL's binary JSON, read by position and walked as a whole, and its packed decimals, read, written, printed, parsed and
+ * compared, by code that is proved. The archive is librelay.a, which './archive' writes; it links into x86-64 Linux programs.
  *
  * How a function answers
  *
  * It returns a refusal's number, or 0. Its answer is a row of 32-bit numbers, which it stores at the front of `answer`; what stands behind them stays
  * as it was. `answer_len` says how many numbers are lent. Fewer than the row takes are refused by 25, before anything else is looked at, and then nothing
- * that is lent changes. Any other refusal changes nothing either, but for the walk's, whose events and row stand then too. Writing a date or time is the one
- * function without `answer`: it returns the number, and that is all.
+ * that is lent changes. Any other refusal changes nothing either, but for the walk's, whose events and row stand then too.
  *
  * What the caller sees to
  *
@@ -42,11 +40,6 @@
  *     nine groups: the digits, cut in nines from the point outwards, left to right; the last group of a fraction is filled with zeros to nine digits, unused
  *     groups are 0, and so is the sign of a zero. Numbers that you hand in and that are not so are refused by 26.
  *     1234567890.5 is 10 1 0 1 234567890 500000000 0 0 0 0 0 0
- *   a date or time, 9 numbers: year, month, day, hour, minute, second, microseconds, sign (0, or 1 for a minus; handed in, any other number is a minus too),
- *     and the column type, 7 TIMESTAMP, 10 DATE, 11 TIME, 12 DATETIME. Each field is tested by itself: the greatest that is taken is 9999-12-31
- *     23:59:59.999999 for 7 and 12, 9999-12-31 for 10 and 838:59:59.999999 for 11, and any field may be 0, also a month or a day; day 31 is taken in any
- *     month. Only a time has a minus, and a zero has none. Numbers that you hand in and that are not so are refused by 30. The form has no time zone: a
- *     TIMESTAMP's fields are as the server wrote them. 2026-11-16 19:35:43.5 is 2026 11 16 19 35 43 500000 0 12
  *
  * Starts count from the document's first byte. A container is asked by four numbers of its row: type code, start, size and count.
  *
@@ -94,28 +87,26 @@ extern "C" {
 /* What a function returns: 0, or the number of a refusal. */
 enum bratthelm_refusal {
     BRATTHELM_ANSWERED = 0,
-    BRATTHELM_ERR_DOCUMENT = 1,    /* the document is longer than 16,777,216 bytes */
-    BRATTHELM_ERR_TYPE = 2,        /* unknown type code */
-    BRATTHELM_ERR_CUT = 3,         /* the bytes end early */
-    BRATTHELM_ERR_SIZE = 4,        /* a container's size exceeds what is left, or its header the size */
-    BRATTHELM_ERR_KEY = 5,         /* a key starts before the header's end, or ends past the container */
-    BRATTHELM_ERR_POINTER = 6,     /* a value's offset is before the end of its own entry, or past the container */
-    BRATTHELM_ERR_LITERAL = 7,     /* unknown literal */
-    BRATTHELM_ERR_LENGTH = 8,      /* a length field goes on after five bytes, or its length is above 4,294,967,295 */
-    BRATTHELM_ERR_UTF8 = 9,        /* a key or a string is not UTF-8 (the walk, with the place where it breaks) */
-    BRATTHELM_ERR_COLUMN = 10,     /* unknown column type */
-    BRATTHELM_ERR_DEPTH = 11,      /* a path is longer than 100 (the walk) */
-    BRATTHELM_ERR_EVENTS = 12,     /* no room for an event (the walk) */
-    BRATTHELM_ERR_VIEW = 13,       /* no whole container of this code, start, size and count in the document, or not of the kind asked for */
-    BRATTHELM_ERR_RANGE = 20,      /* precision or scale out of range */
-    BRATTHELM_ERR_SHORT = 21,      /* the bytes of a decimal end early */
-    BRATTHELM_ERR_GROUP = 22,      /* a group of digits holds too large a number */
-    BRATTHELM_ERR_TEXT = 23,       /* not decimal text */
-    BRATTHELM_ERR_DIGITS = 24,     /* over 65 digits, or over 30 after the point */
-    BRATTHELM_ERR_ROOM = 25,       /* what is lent is shorter than the result */
-    BRATTHELM_ERR_RECORD = 26,     /* the numbers are no decimal: fewer than twelve, or not as 'a decimal' above, as a sign on zero */
-    BRATTHELM_ERR_TIME_FIELD = 30, /* a field of a date or time is out of range, fewer than nine numbers, or a type that is none of the four */
-    BRATTHELM_ERR_TIME_SHORT = 31  /* fewer than eight bytes of a date or time */
+    BRATTHELM_ERR_DOCUMENT = 1, /* the document is longer than 16,777,216 bytes */
+    BRATTHELM_ERR_TYPE = 2,     /* unknown type code */
+    BRATTHELM_ERR_CUT = 3,      /* the bytes end early */
+    BRATTHELM_ERR_SIZE = 4,     /* a container's size exceeds what is left, or its header the size */
+    BRATTHELM_ERR_KEY = 5,      /* a key starts before the header's end, or ends past the container */
+    BRATTHELM_ERR_POINTER = 6,  /* a value's offset is before the end of its own entry, or past the container */
+    BRATTHELM_ERR_LITERAL = 7,  /* unknown literal */
+    BRATTHELM_ERR_LENGTH = 8,   /* a length field goes on after five bytes, or its length is above 4,294,967,295 */
+    BRATTHELM_ERR_UTF8 = 9,     /* a key or a string is not UTF-8 (the walk, with the place where it breaks) */
+    BRATTHELM_ERR_COLUMN = 10,  /* unknown column type */
+    BRATTHELM_ERR_DEPTH = 11,   /* a path is longer than 100 (the walk) */
+    BRATTHELM_ERR_EVENTS = 12,  /* no room for an event (the walk) */
+    BRATTHELM_ERR_VIEW = 13,    /* no whole container of this code, start, size and count in the document, or not of the kind asked for */
+    BRATTHELM_ERR_RANGE = 20,   /* precision or scale out of range */
+    BRATTHELM_ERR_SHORT = 21,   /* the bytes of a decimal end early */
+    BRATTHELM_ERR_GROUP = 22,   /* a group of digits holds too large a number */
+    BRATTHELM_ERR_TEXT = 23,    /* not decimal text */
+    BRATTHELM_ERR_DIGITS = 24,  /* over 65 digits, or over 30 after the point */
+    BRATTHELM_ERR_ROOM = 25,    /* what is lent is shorter than the result */
+    BRATTHELM_ERR_RECORD = 26   /* the numbers are no decimal: fewer than twelve, or not as 'a decimal' above, as a sign on zero */
 };
 
 /* The first number of a value's row. */
@@ -131,11 +122,7 @@ enum bratthelm_kind {
     BRATTHELM_KIND_CONTAINER = 8
 };
 
-/* The column types that are dates and times, which are also the last number of their rows. */
-enum bratthelm_time_type { BRATTHELM_TIMESTAMP = 7, BRATTHELM_DATE = 10, BRATTHELM_TIME = 11, BRATTHELM_DATETIME = 12 };
-
-/* How many numbers each row takes, how many bytes are enough for any decimal's text and for any decimal's digit bytes, and how many every packed date or
- * time is. */
+/* How many numbers each row takes, and how many bytes are enough for any decimal's text and for any decimal's digit bytes. */
 enum {
     BRATTHELM_VALUE_LEN = 5,
     BRATTHELM_KEY_LEN = 3,
@@ -143,10 +130,8 @@ enum {
     BRATTHELM_WALK_LEN = 2,
     BRATTHELM_EVENT_LEN = 9,
     BRATTHELM_DECIMAL_LEN = 12,
-    BRATTHELM_TIME_LEN = 9,
     BRATTHELM_TEXT_MAX = 67,
-    BRATTHELM_BYTES_MAX = 36,
-    BRATTHELM_TIME_BYTES = 8
+    BRATTHELM_BYTES_MAX = 36
 };
 
 /* What the number of an order is. */
@@ -204,15 +189,6 @@ uint32_t bratthelm_decimal_print(const uint32_t *decimal, size_t decimal_len, ui
  * them as they stood. */
 uint32_t bratthelm_decimal_compare(const uint32_t *left, size_t left_len, const uint32_t *right, size_t right_len, uint32_t *answer,
                                    size_t answer_len);
-
-/* The date or time in the eight bytes at the front, of the column type `time_type`, a row of a date or time: 30 for a type that is none of the four, 31, then
- * 30. Later bytes are not read. Of an opaque value's row, of kind 7 and column type 7, 10, 11 or 12:
- * bratthelm_time_read_packed(doc + value[2], value[3], value[4], answer, answer_len). */
-uint32_t bratthelm_time_read_packed(const uint8_t *bytes, size_t bytes_len, uint32_t time_type, uint32_t *answer, size_t answer_len);
-
-/* Writes a date or time to the first eight bytes of `bytes`, as it is read: 30, also for fewer than nine numbers and a type that is none of the four, then 25
- * where `bytes` is shorter. A refusal changes no byte, and later bytes stay as they were. */
-uint32_t bratthelm_time_write_packed(const uint32_t *time, size_t time_len, uint8_t *bytes, size_t bytes_len);
 
 /* The number in a value's row of kind 3, 4 or 5. */
 static inline uint64_t bratthelm_bits(const uint32_t *value) {

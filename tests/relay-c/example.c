@@ -75,18 +75,6 @@ static int all_climb(const uint32_t *events, uint32_t count) {
     return 1;
 }
 
-/* Writes a date or time into twelve bytes of 7, of which so many are lent, and says whether the number is returned and the bytes are these; others stay. */
-static int writes(const uint32_t *time, size_t time_len, size_t lent, uint32_t number, const uint8_t *want) {
-    uint8_t bytes[12];
-    size_t i;
-    int same;
-    memset(bytes, 7, sizeof bytes);
-    same = bratthelm_time_write_packed(time, time_len, bytes, lent) == number;
-    for (i = 0; i < sizeof bytes; i++)
-        same &= bytes[i] == (want != NULL && i < BRATTHELM_TIME_BYTES ? want[i] : 7);
-    return same;
-}
-
 #define ROW(...) (const uint32_t[]){__VA_ARGS__}, sizeof((const uint32_t[]){__VA_ARGS__}) / sizeof(uint32_t)
 #define NONE (const uint32_t[]){0}, 0
 
@@ -102,12 +90,6 @@ int main(void) {
     static const uint8_t truth[] = {0x04, 0x01}, literal[] = {0x04, 0x03}, unknown[] = {0x0D};
     static const uint8_t minus[] = {0x04, 0x02, 0x73, 0xDD}, plus[] = {0x04, 0x02, 0x8C, 0x22};
     static const uint8_t ninety_nine[] = {0xE3}, too_large[] = {0xE4}, nought[] = {0x7F};
-    /* 2026-11-16 19:35:43.5 and its date alone, one hour and minus one hour, 839 hours, the least number, and a document that is the first */
-    static const uint8_t deadline[] = {0x20, 0xA1, 0x07, 0xEB, 0x38, 0x61, 0xBB, 0x19, 0xFF}, day[] = {0x00, 0x00, 0x00, 0x00, 0x00, 0x60, 0xBB, 0x19};
-    static const uint8_t hour[] = {0x00, 0x00, 0x00, 0x00, 0x10, 0x00, 0x00, 0x00}, before[] = {0x00, 0x00, 0x00, 0x00, 0xF0, 0xFF, 0xFF, 0xFF};
-    static const uint8_t hours[] = {0x00, 0x00, 0x00, 0x00, 0x70, 0x34, 0x00, 0x00}, least[] = {0x00, 0x00, 0x00, 0x00, 0x00, 0x00, 0x00, 0x80};
-    static const uint8_t when[] = {0x0F, 0x0C, 0x08, 0x20, 0xA1, 0x07, 0xEB, 0x38, 0x61, 0xBB, 0x19}, zero[8] = {0};
-    uint32_t moment[BRATTHELM_TIME_LEN];
     uint32_t events[3 * BRATTHELM_EVENT_LEN], tree[5 * BRATTHELM_EVENT_LEN], nine[12], hundred[12], d[12];
     uint8_t bytes[BRATTHELM_BYTES_MAX], text[BRATTHELM_TEXT_MAX], spoilt[sizeof deep];
     uint32_t r;
@@ -211,42 +193,6 @@ int main(void) {
                                          (const char *const[]){"-10", "-2", "0.5", "9", "9.50", "100"}, 6));
     nine[11] = 1;
     expect("9 with an unused group and 100", bratthelm_decimal_compare(nine, 12, hundred, 12, fresh(), 16), BRATTHELM_ERR_RECORD, row, NONE);
-
-    /* dates and times, read */
-    expect("a deadline", bratthelm_time_read_packed(deadline, 8, BRATTHELM_DATETIME, fresh(), 16), 0, row, ROW(2026, 11, 16, 19, 35, 43, 500000, 0, 12));
-    expect("nine bytes", bratthelm_time_read_packed(deadline, 9, BRATTHELM_TIMESTAMP, fresh(), 16), 0, row, ROW(2026, 11, 16, 19, 35, 43, 500000, 0, 7));
-    expect("a date", bratthelm_time_read_packed(day, 8, BRATTHELM_DATE, fresh(), 16), 0, row, ROW(2026, 11, 16, 0, 0, 0, 0, 0, 10));
-    expect("an hour", bratthelm_time_read_packed(hour, 8, BRATTHELM_TIME, fresh(), 16), 0, row, ROW(0, 0, 0, 1, 0, 0, 0, 0, 11));
-    expect("minus an hour", bratthelm_time_read_packed(before, 8, BRATTHELM_TIME, fresh(), 16), 0, row, ROW(0, 0, 0, 1, 0, 0, 0, 1, 11));
-    expect("zero", bratthelm_time_read_packed(zero, 8, BRATTHELM_DATE, fresh(), 16), 0, row, ROW(0, 0, 0, 0, 0, 0, 0, 0, 10));
-    expect("a date with a clock part", bratthelm_time_read_packed(deadline, 8, BRATTHELM_DATE, fresh(), 16), BRATTHELM_ERR_TIME_FIELD, row, NONE);
-    expect("a negative date", bratthelm_time_read_packed(before, 8, BRATTHELM_DATETIME, fresh(), 16), BRATTHELM_ERR_TIME_FIELD, row, NONE);
-    expect("839 hours", bratthelm_time_read_packed(hours, 8, BRATTHELM_TIME, fresh(), 16), BRATTHELM_ERR_TIME_FIELD, row, NONE);
-    expect("the least number, a time", bratthelm_time_read_packed(least, 8, BRATTHELM_TIME, fresh(), 16), BRATTHELM_ERR_TIME_FIELD, row, NONE);
-    expect("the least number, a date and time", bratthelm_time_read_packed(least, 8, BRATTHELM_DATETIME, fresh(), 16), BRATTHELM_ERR_TIME_FIELD, row, NONE);
-    expect("seven bytes", bratthelm_time_read_packed(deadline, 7, BRATTHELM_DATETIME, fresh(), 16), BRATTHELM_ERR_TIME_SHORT, row, NONE);
-    expect("no bytes, another type", bratthelm_time_read_packed(deadline, 0, 8, fresh(), 16), BRATTHELM_ERR_TIME_FIELD, row, NONE);
-    expect("the same, eight numbers lent", bratthelm_time_read_packed(deadline, 0, 8, fresh(), 8), BRATTHELM_ERR_ROOM, row, NONE);
-    expect("root of a deadline", bratthelm_root(when, sizeof when, fresh(), 16), 0, row, ROW(7, 15, 3, 8, BRATTHELM_DATETIME));
-    r = bratthelm_time_read_packed(when + row[2], row[3], row[4], moment, BRATTHELM_TIME_LEN);
-    check("it is the deadline", r == 0 && memcmp(moment, (const uint32_t[]){2026, 11, 16, 19, 35, 43, 500000, 0, 12}, sizeof moment) == 0);
-
-    /* and written */
-    check("write the deadline", writes(moment, 9, 12, 0, deadline) && writes(moment, 9, 8, 0, deadline));
-    check("write the deadline, seven bytes lent", writes(moment, 9, 7, BRATTHELM_ERR_ROOM, NULL));
-    check("write eight of its numbers", writes(moment, 8, 12, BRATTHELM_ERR_TIME_FIELD, NULL));
-    moment[7] = 1;
-    check("write a negative date", writes(moment, 9, 12, BRATTHELM_ERR_TIME_FIELD, NULL) && writes(moment, 9, 0, BRATTHELM_ERR_TIME_FIELD, NULL));
-    moment[7] = 0, moment[8] = BRATTHELM_DATE;
-    check("write a date with a clock part", writes(moment, 9, 12, BRATTHELM_ERR_TIME_FIELD, NULL));
-    moment[8] = 8;
-    check("write another type", writes(moment, 9, 12, BRATTHELM_ERR_TIME_FIELD, NULL));
-    check("write minus an hour", writes((const uint32_t[]){0, 0, 0, 1, 0, 0, 0, 1, 11}, 9, 12, 0, before));
-    check("any sign but 0 is a minus", writes((const uint32_t[]){0, 0, 0, 1, 0, 0, 0, 4294967295, 11}, 9, 12, 0, before));
-    check("write an hour, a tenth number lent", writes((const uint32_t[]){0, 0, 0, 1, 0, 0, 0, 0, 11, 9}, 10, 12, 0, hour));
-    check("write zero", writes((const uint32_t[]){0, 0, 0, 0, 0, 0, 0, 0, 7}, 9, 12, 0, zero));
-    check("write a sign on zero", writes((const uint32_t[]){0, 0, 0, 0, 0, 0, 0, 1, 11}, 9, 12, BRATTHELM_ERR_TIME_FIELD, NULL));
-    check("write a time with a day", writes((const uint32_t[]){0, 0, 1, 1, 0, 0, 0, 0, 11}, 9, 12, BRATTHELM_ERR_TIME_FIELD, NULL));
 
     printf("%u passed, %u failed\n", passed, failed);
     return failed != 0;
