@@ -52,6 +52,7 @@ impl JsonbType {
     }
 
     // The type of a code, or 2.
+    #[tactic(auto, unfolding(crate::specs::Types::type_of, crate::specs::Lists::search))]
     pub fn of(code: u8) -> TypeOf
         ensures { result ≡ type_of code }
     {

@@ -94,6 +94,7 @@ impl ColumnType {
     }
 
     // The column type of a byte, or 10.
+    #[tactic(auto, unfolding(crate::specs::Columns::type_of, codes::specs::Lists::search))]
     pub fn of(code: u8) -> ColumnOf
         ensures { result ≡ type_of code }
     {

@@ -1,0 +1,11 @@
+-- Where all four bytes are there they are those of the document, and otherwise those that are there make the same number.
+-- Assumes nothing.
+use mathlib.Core.Path.{sym, ◌∙◌}
+use native.Mathlib.Omega.{arith}
+use Rattle.raw.proofs.Bounds.{le-inside}
+use Rattle.raw.proofs.number.u32_at.Goals as goal
+
+pub returns-then-left-ge4 : goal.returns-then-left-ge4
+returns-then-left-ge4 c =
+    let a = c.args in
+    record { value = c.whole32.ensures.0 ∙ sym (le-inside 4 a.doc.now a.at a.end (omega arith)); upper_bound = c.whole32.ensures.1 }
