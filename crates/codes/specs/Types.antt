@@ -1,11 +1,11 @@
 -- Type codes (json_binary.h of MySQL; document 01, 'Container rules'): 0 to 12 and 15; all others, 13 and 14 among them, are 2.
 -- Assumes nothing.
-use Rattle.std.specs.Prelude.{ℕ, List, [], ◌∷◌}
+use Rattle.std.specs.Prelude.{ℕ, List, [], ◌∷◌, Result, Ok, Err}
 use Rattle.codes.specs.Lists.{search}
 use Rattle.codes.specs.declared.types.JsonbType.{JsonbType}
 use Rattle.codes.specs.declared.types.JsonbType.TheVariants as type
-use Rattle.codes.specs.declared.types.TypeOf.{TypeOf}
-use Rattle.codes.specs.declared.types.TypeOf.TheVariants.{Known, Refused}
+use Rattle.refusal.specs.declared.Refusal.{Refusal}
+use Rattle.refusal.specs.declared.Refusal.TheVariants as refusal
 
 abbrev pub code_of : JsonbType → ℕ
 code_of type.SmallObject = 0
@@ -28,5 +28,5 @@ all = type.SmallObject ∷ type.LargeObject ∷ type.SmallArray ∷ type.LargeAr
     type.Uint32 ∷ type.Int64 ∷ type.Uint64 ∷ type.Double ∷ type.String ∷ type.Opaque ∷ []
 
 -- the one that a byte numbers
-unfoldable pub type_of : ℕ → TypeOf
-type_of n = search code_of Known (Refused 2) all n
+unfoldable pub type_of : ℕ → Result JsonbType Refusal
+type_of n = search code_of Ok (Err refusal.Type) all n

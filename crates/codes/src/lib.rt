@@ -4,5 +4,5 @@
 mod literals;
 mod types;
 
-pub use literals::{LiteralOf, LiteralType};
-pub use types::{JsonbType, TypeOf};
+pub use literals::LiteralType;
+pub use types::JsonbType;

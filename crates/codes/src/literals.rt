@@ -2,19 +2,14 @@
 ghost use Rattle.std.specs.Prelude.{◌≡◌};
 ghost use Rattle.codes.specs.Literals.{code_of, type_of};
 
-// The literals of binary JSON.
-#[derive(Clone, Copy)]
-pub enum LiteralType {
-    Null,
-    True,
-    False,
-}
+use refusal::Refusal;
 
-// A known one, or a refusal.
-#[derive(Clone, Copy)]
-pub enum LiteralOf {
-    Known(LiteralType),
-    Refused(u8),
+// The literals of binary JSON.
+#[derive(Clone, Copy, Debug, PartialEq, Eq, Hash)]
+pub enum LiteralType {
+    Null = 0,
+    True = 1,
+    False = 2,
 }
 
 impl LiteralType {
@@ -22,22 +17,23 @@ impl LiteralType {
     pub fn code(self) -> u8
         ensures { result ≡ code_of self }
     {
-        match self {
-            LiteralType::Null => 0,
-            LiteralType::True => 1,
-            LiteralType::False => 2,
-        }
+        self as u8
     }
+}
 
-    // The literal of a byte, or 7.
-    pub fn of(code: u8) -> LiteralOf
-        ensures { result ≡ type_of code }
-    {
+// The literal of a byte, or 7.
+impl TryFrom<u8> for LiteralType {
+    type Error = Refusal;
+
+    ghost try_from_gives = { λ code result. result ≡ type_of code };
+
+    #[tactic(auto, unfolding(crate::specs::Literals::type_of, crate::specs::Lists::search))]
+    fn try_from(code: u8) -> Result<LiteralType, Refusal> {
         match code {
-            0 => LiteralOf::Known(LiteralType::Null),
-            1 => LiteralOf::Known(LiteralType::True),
-            2 => LiteralOf::Known(LiteralType::False),
-            _ => LiteralOf::Refused(refusal::LITERAL),
+            0 => Ok(LiteralType::Null),
+            1 => Ok(LiteralType::True),
+            2 => Ok(LiteralType::False),
+            _ => Err(Refusal::Literal),
         }
     }
 }

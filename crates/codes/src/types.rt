@@ -2,30 +2,25 @@
 ghost use Rattle.std.specs.Prelude.{◌≡◌};
 ghost use Rattle.codes.specs.Types.{code_of, type_of};
 
-// The type codes of binary JSON, as json_binary.h numbers them.
-#[derive(Clone, Copy)]
-pub enum JsonbType {
-    SmallObject,
-    LargeObject,
-    SmallArray,
-    LargeArray,
-    Literal,
-    Int16,
-    Uint16,
-    Int32,
-    Uint32,
-    Int64,
-    Uint64,
-    Double,
-    String,
-    Opaque,
-}
+use refusal::Refusal;
 
-// A known one, or a refusal.
-#[derive(Clone, Copy)]
-pub enum TypeOf {
-    Known(JsonbType),
-    Refused(u8),
+// The type codes of binary JSON, as json_binary.h numbers them.
+#[derive(Clone, Copy, Debug, PartialEq, Eq, Hash)]
+pub enum JsonbType {
+    SmallObject = 0,
+    LargeObject = 1,
+    SmallArray = 2,
+    LargeArray = 3,
+    Literal = 4,
+    Int16 = 5,
+    Uint16 = 6,
+    Int32 = 7,
+    Uint32 = 8,
+    Int64 = 9,
+    Uint64 = 10,
+    Double = 11,
+    String = 12,
+    Opaque = 15,
 }
 
 impl JsonbType {
@@ -33,45 +28,34 @@ impl JsonbType {
     pub fn code(self) -> u8
         ensures { result ≡ code_of self }
     {
-        match self {
-            JsonbType::SmallObject => 0,
-            JsonbType::LargeObject => 1,
-            JsonbType::SmallArray => 2,
-            JsonbType::LargeArray => 3,
-            JsonbType::Literal => 4,
-            JsonbType::Int16 => 5,
-            JsonbType::Uint16 => 6,
-            JsonbType::Int32 => 7,
-            JsonbType::Uint32 => 8,
-            JsonbType::Int64 => 9,
-            JsonbType::Uint64 => 10,
-            JsonbType::Double => 11,
-            JsonbType::String => 12,
-            JsonbType::Opaque => 15,
-        }
+        self as u8
     }
+}
 
-    // The type of a code, or 2.
+// The type of a code, or 2.
+impl TryFrom<u8> for JsonbType {
+    type Error = Refusal;
+
+    ghost try_from_gives = { λ code result. result ≡ type_of code };
+
     #[tactic(auto, unfolding(crate::specs::Types::type_of, crate::specs::Lists::search))]
-    pub fn of(code: u8) -> TypeOf
-        ensures { result ≡ type_of code }
-    {
+    fn try_from(code: u8) -> Result<JsonbType, Refusal> {
         match code {
-            0 => TypeOf::Known(JsonbType::SmallObject),
-            1 => TypeOf::Known(JsonbType::LargeObject),
-            2 => TypeOf::Known(JsonbType::SmallArray),
-            3 => TypeOf::Known(JsonbType::LargeArray),
-            4 => TypeOf::Known(JsonbType::Literal),
-            5 => TypeOf::Known(JsonbType::Int16),
-            6 => TypeOf::Known(JsonbType::Uint16),
-            7 => TypeOf::Known(JsonbType::Int32),
-            8 => TypeOf::Known(JsonbType::Uint32),
-            9 => TypeOf::Known(JsonbType::Int64),
-            10 => TypeOf::Known(JsonbType::Uint64),
-            11 => TypeOf::Known(JsonbType::Double),
-            12 => TypeOf::Known(JsonbType::String),
-            15 => TypeOf::Known(JsonbType::Opaque),
-            _ => TypeOf::Refused(refusal::TYPE),
+            0 => Ok(JsonbType::SmallObject),
+            1 => Ok(JsonbType::LargeObject),
+            2 => Ok(JsonbType::SmallArray),
+            3 => Ok(JsonbType::LargeArray),
+            4 => Ok(JsonbType::Literal),
+            5 => Ok(JsonbType::Int16),
+            6 => Ok(JsonbType::Uint16),
+            7 => Ok(JsonbType::Int32),
+            8 => Ok(JsonbType::Uint32),
+            9 => Ok(JsonbType::Int64),
+            10 => Ok(JsonbType::Uint64),
+            11 => Ok(JsonbType::Double),
+            12 => Ok(JsonbType::String),
+            15 => Ok(JsonbType::Opaque),
+            _ => Err(Refusal::Type),
         }
     }
 }

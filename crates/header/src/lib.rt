@@ -1,65 +1,70 @@
-// Whether a document has a place and an end, and the header of a container there. Positions are absolute in the document; `end` is the end of the
+// A place of a document with an end that it has, and the header of a container there. Positions are absolute in the document; `end` is the end of the
 // enclosing container.
 #![tactic(auto)]
 
-ghost use Rattle.std.specs.Prelude.{◌≡◌, length};
-ghost use Rattle.header.specs.Headers.{header_at, place_fault, header_read};
-ghost use Rattle.header.specs.Course.{Within};
+ghost use Rattle.std.specs.Prelude.{◌≡◌, ◌≤◌, length, MatchResult, Ok, Err};
+ghost use Rattle.header.specs.Headers.{header_at, place_of, header_read};
 
 use layout::{Kind, offset_at};
+use refusal::Refusal;
 
-// Count and size of a container, or a refusal.
+// What a container's header says.
+#[derive(Clone, Copy, Debug, PartialEq, Eq, Hash)]
+pub struct Header {
+    pub count: u32,
+    pub size: u32,
+}
+
+// A place and an end within a document that is not too long.
 #[derive(Clone, Copy)]
-pub enum Header {
-    Whole { count: u32, size: u32 },
-    Refused(u8),
+pub struct Window<'a> {
+    pub doc: &'a [u8],
+    pub at: usize,
+    pub end: usize,
+    ghost ordered: { at ≤ end },
+    ghost inside: { end ≤ length doc.now },
+    ghost short: { length doc.now ≤ 16777216 },
 }
 
-// Count and size, where both and the header fit.
-fn read_header(doc: &[u8], k: Kind, at: usize, end: usize) -> Header
-    requires { Within (length doc.now) at end }
-    ensures { result ≡ header_at doc.now k at end }
-{
-    let left = end - at;
-    let w = k.offset_size();
-    if left < 2 * w {
-        return Header::Refused(refusal::CUT);
+impl<'a> Window<'a> {
+    // The place and the end, where the document has them.
+    #[tactic(auto, unfolding(crate::specs::Headers::place_of))]
+    pub fn new(doc: &'a [u8], at: usize, end: usize) -> Result<Window<'a>, Refusal>
+        ensures placed { MatchResult result (λ p. (p.doc.now ≡ doc.now) × (p.at ≡ at) × (p.end ≡ end) × (place_of doc.now at end ≡ Ok _)) (λ r. place_of doc.now at end ≡ Err r) }
+    {
+        if 16777216 < doc.len() {
+            return Err(Refusal::Document);
+        }
+        if doc.len() < end || end < at {
+            return Err(Refusal::Cut);
+        }
+        Ok(Window { doc, at, end })
     }
-    let count = offset_at(doc, k, at, end);
-    let size = offset_at(doc, k, at + w, end);
-    let whole = size as usize;
-    if left < whole {
-        return Header::Refused(refusal::SIZE);
-    }
-    if whole < k.header_size(count) {
-        return Header::Refused(refusal::SIZE);
-    }
-    Header::Whole { count, size }
-}
 
-// What is wrong with a place and an end in a document: 1, 3, or 0 for nothing.
-pub fn place_fault(doc: &[u8], at: usize, end: usize) -> u8
-    ensures { result ≡ place_fault doc.now at end }
-{
-    if 16777216 < doc.len() {
-        return refusal::DOCUMENT;
+    // Count and size, where both and the header fit.
+    #[tactic(auto, unfolding(crate::specs::Headers::header_at))]
+    pub fn header(self, k: Kind) -> Result<Header, Refusal>
+        ensures { result ≡ header_at self.entry.doc.now k self.entry.at self.entry.end }
+    {
+        let left = self.end - self.at;
+        let w = k.offset_size();
+        if left < 2 * w {
+            return Err(Refusal::Cut);
+        }
+        let count = offset_at(self.doc, k, self.at, self.end);
+        let size = offset_at(self.doc, k, self.at + w, self.end);
+        let whole = size as usize;
+        if left < whole || whole < k.header_size(count) {
+            return Err(Refusal::Size);
+        }
+        Ok(Header { count, size })
     }
-    if doc.len() < end {
-        return refusal::CUT;
-    }
-    if end < at {
-        return refusal::CUT;
-    }
-    0
 }
 
 // Count and size of a container of a kind at a place, up to an end.
-pub fn header_at(doc: &[u8], k: Kind, at: usize, end: usize) -> Header
+#[tactic(auto, unfolding(crate::specs::Headers::header_read))]
+pub fn header_at(doc: &[u8], k: Kind, at: usize, end: usize) -> Result<Header, Refusal>
     ensures { result ≡ header_read doc.now k at end }
 {
-    let fault = place_fault(doc, at, end);
-    if fault != 0 {
-        return Header::Refused(fault);
-    }
-    read_header(doc, k, at, end)
+    Window::new(doc, at, end)?.header(k)
 }
