@@ -14,6 +14,7 @@ const POWERS_10: [u32; 10] = [
 // A group of d digits takes half as many bytes as digits, rounded up, since two digits fit a byte, and never more than four, since four
 // bytes hold nine digits (2^32 is above 10^9). So every number below 10^d fits: `fits` in proofs/Widths.antt. Three bytes would hold
 // seven digits too, but not the bit of the sign, which the first group has beside them (`no-fewer` there).
+#[tactic(auto, unfolding(crate::specs::Layout::width))]
 fn width_of(d: usize) -> usize
     requires { d ≤ 9 }
     ensures { (result ≡ width d) × (result ≤ 4) }
@@ -22,6 +23,7 @@ fn width_of(d: usize) -> usize
 }
 
 // 10 to the d, for the digits that a group can have, and 0 above.
+#[tactic(auto, unfolding(crate::specs::Layout::power_of))]
 pub fn power(d: usize) -> u32
     ensures { result ≡ power_of d }
 {
@@ -45,6 +47,7 @@ pub struct Sides {
 }
 
 // The sides of any numbers of digits. The size is that of a decimal where there is one of so many digits.
+#[tactic(auto, unfolding(crate::specs::Layout::width, crate::specs::Layout::groups_of))]
 pub fn sides_of(intg: usize, frac: usize) -> Sides
     ensures { result ≡ sides_of intg frac }
 {
@@ -70,6 +73,7 @@ pub fn sides_of(intg: usize, frac: usize) -> Sides
 }
 
 // Whether there are decimals of this precision and scale.
+#[tactic(auto, unfolding(crate::specs::Read::in_range))]
 pub fn accepted(p: usize, s: usize) -> bool
     ensures { result ≡ in_range p s }
 {
@@ -77,6 +81,7 @@ pub fn accepted(p: usize, s: usize) -> bool
 }
 
 // The packed size of a precision and a scale.
+#[tactic(auto, unfolding(crate::specs::Write::size_of))]
 pub fn size(precision: usize, scale: usize) -> Result<usize, Refusal>
     ensures { told result ≡ size_of precision scale }
 {
