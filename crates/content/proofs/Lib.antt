@@ -1,1 +1,2 @@
-pub mod Doubles
+mod Doubles
+mod Fields
