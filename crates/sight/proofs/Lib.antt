@@ -1,3 +1,1 @@
-pub mod Cases
-mod Good
-pub mod Laws
+pub mod Numbers
