@@ -1,6 +1,6 @@
 // Which fields a date or a time may have.
 ghost use Rattle.std.specs.Prelude.{◌≡◌};
-ghost use Rattle.time.specs.Ranges.{greatest as greatest_of, within, is_zero, sign_allowed, in_range};
+ghost use Rattle.time.specs.Ranges.{greatest as greatest_of, within, sign_allowed, in_range};
 
 use super::{MysqlTime, TimeType};
 
