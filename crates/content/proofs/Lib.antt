@@ -1,4 +1,1 @@
-mod Doubles
-pub mod Cases
-pub mod Placed
-pub mod Exact
+pub mod Doubles

@@ -5,7 +5,7 @@ ghost use Rattle.std.specs.Prelude.{◌≡◌, ◌<◌, ◌≤◌};
 ghost use Rattle.layout.specs.Layout.{offset_size, key_entry, key_place, value_place, header_size, offset_at};
 
 // What a container is: an object or an array, with offsets of four bytes or of two.
-#[derive(Clone, Copy)]
+#[derive(Clone, Copy, Debug, PartialEq, Eq, Hash)]
 pub struct Kind {
     pub object: bool,
     pub large: bool,
