@@ -234,10 +234,7 @@ fn write_record(time: Option<MysqlTime>, bytes: &mut [u8]) -> Result<(), Refusal
     ensures value { told_by written result ≡ record_told time bytes.old }
     ensures bytes_after { bytes.new ≡ record_leaves time bytes.old }
 {
-    match time {
-        Some(t) => t.write_packed(bytes),
-        None => Err(Refusal::TimeField),
-    }
+    time.ok_or(Refusal::TimeField)?.write_packed(bytes)
 }
 
 // The packed form of a date or time, into the first eight bytes of a lent slice. There is no answer but the number that is returned.
