@@ -13,7 +13,7 @@ use Rattle.value.specs.declared.View.{View}
 use Rattle.entry.specs.Entries.{entry_at, entry_read, key_entry_at, key_read}
 use Rattle.gate.specs.Said.{read_said}
 use Rattle.gate.specs.Before.{matches, gated, gate_of}
-use Rattle.gate.proofs.Gates.{gated_same, open-whole, whole-entry, whole-key}
+use Rattle.gate.proofs.Gates.{gated_same, entry_gated, key_gated, open-whole, whole-entry, whole-key}
 use Rattle.steps.specs.Steps.{is_open, member_of, element_item, key_item, member_item}
 
 -- whether an answer of the gate is open
@@ -42,11 +42,11 @@ module _ (d : List ℕ) (v : View) (asked : Bool) (i : ℕ) where
 module _ (d : List ℕ) (v : View) (i : ℕ) where
   pub element_is : element_item d v i ≡ gated d v (not v.kind.object) i (read_said (entry_read d v i))
   unfolding element_item
-  element_is = gated_same d v (not v.kind.object) i _ _ (λ w. ap read_said (sym (whole-entry d v i w)))
+  element_is = entry_gated d v (not v.kind.object) i
 
   pub key_is : key_item d v i ≡ gated d v v.kind.object i (read_said (key_read d v i))
   unfolding key_item
-  key_is = gated_same d v v.kind.object i _ _ (λ w. ap read_said (sym (whole-key d v i w)))
+  key_is = key_gated d v v.kind.object i
 
   pub member_is : member_item d v i ≡ gated d v v.kind.object i (member_of (read_said (key_read d v i)) (read_said (entry_read d v i)))
   unfolding member_item
