@@ -1,2 +1,4 @@
 mod Doubles
 mod Fields
+pub mod Placed
+pub mod Exact
