@@ -1,10 +1,9 @@
--- Eight bytes, each by its own quotient, are those that write a number; and the first eight of a document are the number that `raw` reads.
+-- Eight bytes, each by its own quotient, are those that write a number.
 -- Assumes nothing.
-use Rattle.std.proofs.Common.{◌≡◌, ℕ, ◌/◌, List, take, w64, ℤ, of_z, to_z, SFits, arith}
+use Rattle.std.proofs.Common.{◌≡◌, ◌/◌, w64, ℤ, of_z, to_z, SFits, arith}
 use Rattle.std.proofs.lemmas.Int.{to_z-of_z}
 use Rattle.std.specs.Int.{to_le_bytes}
-use Rattle.raw.specs.Numbers.{value, bytes_of, le}
-use Rattle.raw.proofs.Bounds.{le-inside}
+use Rattle.raw.specs.Numbers.{bytes_of}
 
 pub eight_bytes : (z : ℤ) → SFits w64 z → bytes_of 8 (of_z w64 z) ≡ to_le_bytes w64 (of_z w64 (to_z w64 (of_z w64 z)))
 unfolding bytes_of
@@ -17,6 +16,3 @@ eight_bytes z f =
     let six : n / 281474976710656 ≡ n / 256 / 256 / 256 / 256 / 256 / 256 = omega arith in
     let seven : n / 72057594037927936 ≡ n / 256 / 256 / 256 / 256 / 256 / 256 / 256 = omega arith in
     rw (to_z-of_z, two, three, four, five, six, seven)
-
-pub first_eight : (bs : List ℕ) → le 8 bs 0 8 ≡ value (take 8 bs)
-first_eight bs = le-inside 8 bs 0 8 (omega arith)

@@ -1,27 +1,12 @@
--- The packed number of fields that are in range: its magnitude stays below 2 ^ 63. And what stands above the minutes, by the type.
+-- The packed number of fields that are in range: each part of its magnitude stays small, and the whole below 2 ^ 63.
 -- Assumes nothing.
-use Rattle.std.proofs.Common.{◌≡◌, ap, ℕ, ◌+◌, ◌*◌, ◌<◌, ◌≤◌, Bool, true, false, cond, arith}
+use Rattle.std.proofs.Common.{◌≡◌, ◌<◌, ◌≤◌, Bool, true, false, cond, arith}
 use Rattle.time.specs.declared.TimeType.{TimeType}
 use Rattle.time.specs.declared.TimeType.TheVariants as type
 use Rattle.time.specs.declared.MysqlTime.{MysqlTime}
 use Rattle.time.specs.Packed.{is_time, date_and_hour, above_minutes, magnitude_of}
 use Rattle.time.specs.Ranges.{greatest, in_range}
 use Rattle.time.proofs.Range.{Within, range-within}
-
--- ---- what stands above the minutes
-module _ (t : MysqlTime) where
-  pub above-of-time : is_time t.time_type ≡ true → t.hour ≡ above_minutes t
-  unfolding above_minutes
-  above-of-time h = rw h
-
-  pub above-of-date : is_time t.time_type ≡ false → date_and_hour t ≡ above_minutes t
-  unfolding above_minutes
-  above-of-date h = rw h
-
-pub is-magnitude :
-    (t : MysqlTime) {a : ℕ} → a ≡ above_minutes t → ((a * 64 + t.minute) * 64 + t.second) * 16777216 + t.second_part ≡ magnitude_of t
-unfolding magnitude_of
-is-magnitude t e = ap (λ (x : ℕ). ((x * 64 + t.minute) * 64 + t.second) * 16777216 + t.second_part) e
 
 -- ---- bounds: the greatest values of all four types
 record Limits (t : MysqlTime) : Type 0 where

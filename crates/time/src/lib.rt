@@ -59,14 +59,14 @@ impl TimeType {
 
 impl MysqlTime {
     // The value of this type in the first eight bytes.
-    #[tactic(auto, using(crate::proofs::Bytes::first_eight), unfolding(crate::specs::Answers::read_told, crate::specs::Answers::ranged, crate::specs::Packed::number))]
+    #[tactic(auto, unfolding(crate::specs::Answers::read_told, crate::specs::Answers::ranged, crate::specs::Packed::number))]
     pub fn read_packed(bytes: &[u8], kind: TimeType) -> Result<MysqlTime, Refusal>
         ensures { told_by numbers result ≡ read_told kind bytes.now }
     {
         if bytes.len() < 8 {
             return Err(Refusal::TimeShort);
         }
-        let t = MysqlTime::of_number(kind, raw::u64_at(bytes, 0, 8).cast_signed());
+        let t = MysqlTime::of_number(kind, raw::whole::<8>(bytes, 0).cast_signed());
         if t.in_range() {
             Ok(t)
         } else {
