@@ -14,7 +14,7 @@ pub struct Length {
 }
 
 // Group by group: `low` is what the k groups passed hold, and `unit` what the next one counts.
-pub fn length_at(doc: &[u8], at: usize, end: usize) -> Result<Length, Refusal>
+fn grouped(doc: &[u8], at: usize, end: usize) -> Result<Length, Refusal>
     ensures { result ≡ length_at doc.now at end }
 {
     let left = raw::left(doc, at, end);
@@ -36,4 +36,18 @@ pub fn length_at(doc: &[u8], at: usize, end: usize) -> Result<Length, Refusal>
         unit *= 128;
     }
     Err(Refusal::Length)
+}
+
+// Most fields have one byte, which takes nine instructions more in the loop.
+#[tactic(auto, using(crate::proofs::Fields::one))]
+pub fn length_at(doc: &[u8], at: usize, end: usize) -> Result<Length, Refusal>
+    ensures { result ≡ length_at doc.now at end }
+{
+    if 0 < raw::left(doc, at, end) && doc[at] < 128 {
+        return Ok(Length {
+            length: u32::from(doc[at]),
+            next: at + 1,
+        });
+    }
+    grouped(doc, at, end)
 }

@@ -4,7 +4,7 @@ use Rattle.std.proofs.Common.{arith, ◌≡◌, ◌+◌, ◌-◌, ◌*◌}
 use Rattle.std.proofs.lemmas.Grind.{common_steps}
 use Rattle.length_field.specs.Length.{got, field_of, length_at}
 use Rattle.length_field.proofs.Fields.{cut-here, long-here, last-here, more-here, bound, unit-more}
-use Rattle.length_field.proofs.length_at.Goals as goal
+use Rattle.length_field.proofs.grouped.Goals as goal
 
 pub returns-then-left-k : goal.returns-then-left-k
 returns-then-left-k c = cut-here _ _ _ _ _ _ c.loop-k.invariant.passed c.loop-k-test.true (omega arith)
