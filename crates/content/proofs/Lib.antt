@@ -1,1 +1,4 @@
-pub mod Doubles
+mod Doubles
+mod Fields
+pub mod Placed
+pub mod Exact

@@ -11,6 +11,7 @@ use codes::{JsonbType, LiteralType};
 use columns::ColumnType;
 use header::Window;
 use layout::Kind;
+use length_field::Length;
 use refusal::Refusal;
 use value::{Number, Scalar, Span, Value, View};
 
@@ -72,17 +73,17 @@ fn number(w: Window<'_>, t: JsonbType, width: usize, x: Number) -> Result<Value,
 }
 
 // A length field and as many bytes: where the bytes are.
-#[tactic(auto, unfolding(crate::specs::Reading::part_at))]
+#[tactic(auto, using(crate::proofs::Fields::field_within), unfolding(crate::specs::Reading::part_at))]
 pub fn part(w: Window<'_>) -> Result<Span, Refusal>
     ensures { result ≡ part_at w.entry.doc.now w.entry.at w.entry.end }
 {
-    let field = length_field::length_at(w.doc, w.at, w.end)?;
-    if w.end - field.next < field.length as usize {
+    let Length { length, next } = length_field::length_at(w.doc, w.at, w.end)?;
+    if w.end - next < length as usize {
         return Err(Refusal::Cut);
     }
     Ok(Span {
-        start: field.next as u32,
-        len: field.length,
+        start: next as u32,
+        len: length,
     })
 }
 

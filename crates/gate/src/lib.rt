@@ -1,8 +1,9 @@
-// What comes before any entry of a container is looked at.
+// What comes before any entry of a container is looked at, and the item that is read where there is one.
 #![tactic(auto)]
 
-ghost use Rattle.std.specs.Prelude.{◌≡◌};
-ghost use Rattle.gate.specs.Before.{matches, gate_of};
+ghost use Rattle.std.specs.Prelude.{◌≡◌, Result};
+ghost use Rattle.gate.specs.Said.{Said, read_said, said};
+ghost use Rattle.gate.specs.Before.{matches, gate_of, gated};
 
 use refusal::Refusal;
 use value::View;
@@ -30,4 +31,16 @@ pub fn gate_at(doc: &[u8], v: View, asked: bool, i: u32) -> Result<bool, Refusal
         return Err(Refusal::View);
     }
     Ok(i < v.count)
+}
+
+// What is read of entry i where there is one, and nothing at or past the count.
+#[tactic(auto, using(crate::proofs::Gates::gated_by))]
+pub fn item_at<T, F: FnOnce() -> Result<T, Refusal>>(doc: &[u8], v: View, asked: bool, i: u32, read: F) -> Result<Option<T>, Refusal>
+    requires { F.IsAlwaysCallable read }
+    ensures { (x : Said T) → ((r : Result T Refusal) → F.post read r → read_said r ≡ x) → said result ≡ gated doc.now v asked i x }
+{
+    if !gate_at(doc, v, asked, i)? {
+        return Ok(None);
+    }
+    read().map(Some)
 }

@@ -3,30 +3,24 @@ ghost use Rattle.std.specs.Prelude.{◌≡◌};
 ghost use Rattle.gate.specs.Said.{read_said, said};
 ghost use Rattle.jsonb.specs.Views.{elem_at, key_at, count_at};
 
-use gate::{gate_at, is_whole};
+use gate::{is_whole, item_at};
 use refusal::Refusal;
 use value::{Span, Value, View};
 
 // The element, or the member's value, at a position; nothing at or past the count.
-#[tactic(auto, unfolding(crate::specs::Views::elem_at))]
+#[tactic(auto, using(crate::proofs::Cases::elem_is))]
 pub fn elem_at(doc: &[u8], v: View, pos: u32) -> Result<Option<Value>, Refusal>
     ensures { said result ≡ elem_at doc.now v pos }
 {
-    if !gate_at(doc, v, true, pos)? {
-        return Ok(None);
-    }
-    Ok(Some(entry::read_entry(doc, v, pos)?))
+    item_at(doc, v, true, pos, || entry::read_entry(doc, v, pos))
 }
 
 // The key at a position; nothing at or past the count.
-#[tactic(auto, unfolding(crate::specs::Views::key_at))]
+#[tactic(auto, using(crate::proofs::Cases::key_is))]
 pub fn key_at(doc: &[u8], v: View, pos: u32) -> Result<Option<Span>, Refusal>
     ensures { said result ≡ key_at doc.now v pos }
 {
-    if !gate_at(doc, v, v.kind.object, pos)? {
-        return Ok(None);
-    }
-    Ok(Some(keys::read_key(doc, v, pos)?))
+    item_at(doc, v, v.kind.object, pos, || keys::read_key(doc, v, pos))
 }
 
 // How many elements or members a view has.

@@ -2,9 +2,10 @@
 #![tactic(auto)]
 
 ghost use Rattle.std.specs.Prelude.{◌≡◌, not, Result};
+ghost use Rattle.entry.specs.Entries.{entry_read, key_read};
 ghost use Rattle.gate.specs.Said.{Said, read_said, said};
 ghost use Rattle.gate.specs.Before.{gated};
-ghost use Rattle.steps.specs.Steps.{is_open, after, element_item, key_item, member_item};
+ghost use Rattle.steps.specs.Steps.{is_open, after, member_of, element_item, key_item, member_item};
 
 use refusal::Refusal;
 use value::{Span, Value, View};
@@ -45,7 +46,8 @@ pub struct Step<T, P> {
 }
 
 // What is read at a position of a view, where there is an entry of the kind that was asked; and the position that follows.
-fn step<T, F: FnOnce() -> Result<T, Refusal>>(
+#[tactic(auto, using(gate::proofs::Gates::gated_by, crate::proofs::Cases::open_by, crate::proofs::Cases::below))]
+fn step_at<T, F: FnOnce() -> Result<T, Refusal>>(
     doc: &[u8],
     v: View,
     asked: bool,
@@ -74,13 +76,13 @@ fn step<T, F: FnOnce() -> Result<T, Refusal>>(
 
 impl Elements {
     // The element at this place, and the place that follows.
-    #[tactic(auto, unfolding(crate::specs::Steps::element_item))]
+    #[tactic(auto, using(crate::proofs::Cases::element_is))]
     pub fn next(self, doc: &[u8]) -> Step<Value, Elements>
         ensures item_value { said result.item ≡ element_item doc.now self.view self.at }
         ensures view_value { (result.next.view ≡ self.view) × (result.next.at ≡ after (is_open doc.now self.view (not self.view.kind.object) self.at) self.at) }
     {
         let Elements { view, at } = self;
-        let Step { item, next } = step(
+        let Step { item, next } = step_at(
             doc,
             view,
             !view.kind.object,
@@ -96,13 +98,13 @@ impl Elements {
 
 impl Keys {
     // The key at this place, and the place that follows.
-    #[tactic(auto, unfolding(crate::specs::Steps::key_item))]
+    #[tactic(auto, using(crate::proofs::Cases::key_is))]
     pub fn next(self, doc: &[u8]) -> Step<Span, Keys>
         ensures item_value { said result.item ≡ key_item doc.now self.view self.at }
         ensures view_value { (result.next.view ≡ self.view) × (result.next.at ≡ after (is_open doc.now self.view self.view.kind.object self.at) self.at) }
     {
         let Keys { view, at } = self;
-        let Step { item, next } = step(
+        let Step { item, next } = step_at(
             doc,
             view,
             view.kind.object,
@@ -117,7 +119,9 @@ impl Keys {
 }
 
 // Member i: its key's fault comes before its value's.
-fn read_member(doc: &[u8], v: View, i: u32) -> Result<Member, Refusal> {
+fn read_member(doc: &[u8], v: View, i: u32) -> Result<Member, Refusal>
+    ensures { read_said result ≡ member_of (read_said (key_read doc.now v i)) (read_said (entry_read doc.now v i)) }
+{
     Ok(Member {
         key: keys::read_key(doc, v, i)?,
         value: entry::read_entry(doc, v, i)?,
@@ -126,13 +130,13 @@ fn read_member(doc: &[u8], v: View, i: u32) -> Result<Member, Refusal> {
 
 impl Members {
     // The member at this place, and the place that follows.
-    #[tactic(auto, unfolding(crate::specs::Steps::member_item))]
+    #[tactic(auto, using(crate::proofs::Cases::member_is))]
     pub fn next(self, doc: &[u8]) -> Step<Member, Members>
         ensures item_value { said result.item ≡ member_item doc.now self.view self.at }
         ensures view_value { (result.next.view ≡ self.view) × (result.next.at ≡ after (is_open doc.now self.view self.view.kind.object self.at) self.at) }
     {
         let Members { view, at } = self;
-        let Step { item, next } = step(
+        let Step { item, next } = step_at(
             doc,
             view,
             view.kind.object,
