@@ -1,6 +1,6 @@
 -- The sight of an entry by its parts: whether it ends in the container, its type, and where its value stands.
 -- Assumes nothing.
-use mathlib.Core.Path.{◌≡◌, refl, sym, ap, ◌∙◌}
+use mathlib.Core.Path.{◌≡◌, refl, sym, ap, ◌∙◌, subst}
 use mathlib.Core.Bool.{Bool, true, false, cond}
 use mathlib.Core.List.{List}
 use Prim.Native.Nat.{ℕ, ◌+◌, ◌-◌, ◌≤◌, ◌<◌, min}
@@ -19,7 +19,7 @@ use Rattle.value.specs.declared.Value.{Value}
 use Rattle.content.specs.Reading.{kind, content_at, read_at}
 use Rattle.header.specs.Headers.{place_of, placed, then}
 use Rattle.header.specs.Course.{Within}
-use Rattle.header.proofs.Placed.{placed-within, no-fault}
+use Rattle.header.proofs.Placed.{placed-within}
 use Rattle.entry.specs.Entries.{end_of, is_inlined, pointed_at, typed_entry, entry_of}
 use Rattle.sight.specs.Sights.{sight_of, bounds, start_by, typed_start_by, sight_at}
 use Rattle.sight.specs.declared.Sight.{Sight}
@@ -46,55 +46,57 @@ module _ (d : List ℕ) (large : Bool) (start size p : ℕ) where
   abbrev there : ℕ
   there = start + offset_at d (kind false large) (p + 1) (start + size)
 
-  pub past-end : {r : Refusal} → place_of d next (start + size) ≡ Err r → Err r ≡ sight_at d large start size p
-  unfolding sight_at
-  past-end {r} e = rw e refl
-
-  module _ (w : Within (length d) next (start + size)) where
-    abbrev read : Result JsonbType Refusal → Result Sight Refusal
-    read y = sight_of (entry_of d v y (p + 1)) (typed_start_by d v (p + 1) y)
-
-    by-type : sight_at d large start size p ≡ read (type_of (get_or d p 0))
+  -- next as the code counts it, by the offset size w
+  module _ {w j : ℕ} (we : w ≡ offset_size (kind false large)) (je : j ≡ min (p + (1 + w)) 18446744073709551615) (h : start + size < 18446744073709551615) where
+    pub past-end : {r : Refusal} → place_of d j (start + size) ≡ Err r → Err r ≡ sight_at d large start size p
     unfolding sight_at
-    by-type = placed-within d next (start + size) w
+    past-end {r} e =
+        let f : place_of d next (start + size) ≡ Err r = sym (place_saturated d next j (start + size) (omega arith) h) ∙ e in
+        rw f refl
 
-    pub type_refused : {r : Refusal} → type_of (get_or d p 0) ≡ Err r → Err r ≡ sight_at d large start size p
-    type_refused {r} e = sym (by-type ∙ ap read e)
+    module _ (b : Within (length d) j (start + size)) where
+      is-next : j ≡ next
+      is-next = omega (arith, b.order)
 
-    module _ {t : JsonbType} (te : type_of (get_or d p 0) ≡ Ok t) where
-      by_place : {b : Bool} → is_inlined t large ≡ b →
-          sight_at d large start size p ≡ sight_of (cond b (read_at d t (p + 1) next) (pointed_at d v t (p + 1))) (cond b (p + 1) there)
-      unfolding typed_entry start_by
-      by_place {b} x =
-          by-type ∙ ap read te
-          ∙ ap (λ (b : Bool). sight_of (cond b (read_at d t (p + 1) next) (pointed_at d v t (p + 1))) (cond b (p + 1) there)) x
+      within : Within (length d) next (start + size)
+      within = subst (λ (n : ℕ). Within (length d) n (start + size)) is-next b
 
-      -- in the entry
-      pub in-entry : is_inlined t large ≡ true → sight_of (content_at d t (p + 1) next) (p + 1) ≡ sight_at d large start size p
-      unfolding read_at
-      in-entry x =
-          let f : Within (length d) (p + 1) next = record { order = omega arith; inside = omega (arith, w.order, w.inside); short = w.short } in
-          sym (by_place x ∙ ap (λ (y : Result Value Refusal). sight_of y (p + 1)) (placed-within d (p + 1) next f))
+      abbrev read : Result JsonbType Refusal → Result Sight Refusal
+      read y = sight_of (entry_of d v y (p + 1)) (typed_start_by d v (p + 1) y)
 
-      -- at its offset
-      module _ (x : is_inlined t large ≡ false) where
-        pub pointed-low : there < next → Err refusal.Pointer ≡ sight_at d large start size p
-        unfolding pointed_at
-        pointed-low h = sym (by_place x ∙ ap (λ (b : Bool). sight_of (cond b (Err refusal.Pointer) (cond (ltb (start + size) there) (Err refusal.Pointer) (read_at d t there (start + size)))) there) (lt-ltb there next h))
+      by-type : sight_at d large start size p ≡ read (type_of (get_or d p 0))
+      unfolding sight_at
+      by-type = placed-within d next (start + size) within
 
-        module _ (h : next ≤ there) where
+      module _ {t : JsonbType} (te : type_of (get_or d p 0) ≡ Ok t) where
+        by_place : {b : Bool} → is_inlined t large ≡ b →
+            sight_at d large start size p ≡ sight_of (cond b (read_at d t (p + 1) next) (pointed_at d v t (p + 1))) (cond b (p + 1) there)
+        unfolding typed_entry start_by
+        by_place {b} x =
+            by-type ∙ ap read te
+            ∙ ap (λ (b : Bool). sight_of (cond b (read_at d t (p + 1) next) (pointed_at d v t (p + 1))) (cond b (p + 1) there)) x
+
+        -- in the entry
+        pub in-entry : is_inlined t large ≡ true → sight_of (content_at d t (p + 1) j) (p + 1) ≡ sight_at d large start size p
+        unfolding read_at
+        in-entry x =
+            let f : Within (length d) (p + 1) next = record { order = omega arith; inside = omega (arith, within.order, within.inside); short = within.short } in
+            ap (λ (n : ℕ). sight_of (content_at d t (p + 1) n) (p + 1)) is-next
+            ∙ sym (by_place x ∙ ap (λ (y : Result Value Refusal). sight_of y (p + 1)) (placed-within d (p + 1) next f))
+
+        -- at its offset o
+        module _ (x : is_inlined t large ≡ false) {o : ℕ} (oe : o ≡ offset_at d (kind false large) (p + 1) (start + size)) where
           abbrev past : Bool → Result Sight Refusal
           past b = sight_of (cond b (Err refusal.Pointer) (read_at d t there (start + size))) there
 
-          by-end : {b : Bool} → ltb (start + size) there ≡ b → sight_at d large start size p ≡ past b
-          unfolding pointed_at
-          by-end y = by_place x ∙ ap (λ (b : Bool). sight_of (cond b (Err refusal.Pointer) (cond (ltb (start + size) there) (Err refusal.Pointer) (read_at d t there (start + size)))) there) (le-ltb there next h) ∙ ap past y
+          abbrev low : Bool → Result Sight Refusal
+          low b = sight_of (cond b (Err refusal.Pointer) (cond (ltb (start + size) there) (Err refusal.Pointer) (read_at d t there (start + size)))) there
 
-          pub pointed-high : start + size < there → Err refusal.Pointer ≡ sight_at d large start size p
-          pointed-high l = sym (by-end (lt-ltb (start + size) there l))
-
-          pub pointed-right : there ≤ start + size → sight_of (content_at d t there (start + size)) there ≡ sight_at d large start size p
-          unfolding read_at
-          pointed-right l =
-              let f : Within (length d) there (start + size) = record { order = l; inside = w.inside; short = w.short } in
-              sym (by-end (le-ltb (start + size) there l) ∙ ap (λ (y : Result Value Refusal). sight_of y there) (placed-within d there (start + size) f))
+          pub pointed-right : j ≤ start + o → start + o ≤ start + size →
+              sight_of (content_at d t (start + o) (start + size)) (start + o) ≡ sight_at d large start size p
+          unfolding pointed_at read_at
+          pointed-right l k =
+              let f : Within (length d) there (start + size) = record { order = omega arith; inside = within.inside; short = within.short } in
+              ap (λ (n : ℕ). sight_of (content_at d t (start + n) (start + size)) (start + n)) oe
+              ∙ sym (by_place x ∙ ap low (le-ltb there next (omega (arith, is-next))) ∙ ap past (le-ltb (start + size) there (omega arith))
+              ∙ ap (λ (y : Result Value Refusal). sight_of y there) (placed-within d there (start + size) f))
