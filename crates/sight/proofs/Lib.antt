@@ -1,1 +1,4 @@
 pub mod Numbers
+pub mod Entries
+pub mod Good
+pub mod Laws

@@ -15,7 +15,6 @@ use Rattle.header.specs.Headers.{then}
 use Rattle.entry.specs.Entries.{end_of}
 use Rattle.events.specs.Events.{span, scalar_part}
 use Rattle.events.specs.Text.{text_at, scalar_text}
-use Rattle.utf8.specs.declared.Utf8Check.TheVariants.{Valid}
 use Rattle.sight.specs.Sights.{sight}
 use Rattle.sight.specs.declared.Sight.{Sight}
 
@@ -29,7 +28,7 @@ plain t r = then r (λ s. Ok (sight (type_code t) s 0))
 
 -- a scalar's code is none of a container's, and the code of strings alone says that the bytes are text
 abbrev pub SoundScalar : JsonbType → Scalar → Type 0
-SoundScalar t s = (3 < type_code t) × ((d : List ℕ) (from : ℕ) → cond (eqb (type_code t) 12) (text_at d (scalar_part t s from)) Valid ≡ scalar_text d s)
+SoundScalar t s = (3 < type_code t) × ((d : List ℕ) (from : ℕ) → cond (eqb (type_code t) 12) (text_at d (scalar_part t s from)) (Ok _) ≡ scalar_text d s)
 
 abbrev pub SoundValue : Value → Type 0
 SoundValue (value.Scalar t s) = SoundScalar t s

@@ -98,7 +98,7 @@ fn opaque(w: Window<'_>) -> Result<Sight, Refusal>
 }
 
 // The value of a type that stands there, which is not the document's first byte.
-#[tactic(auto, using(crate::proofs::Numbers::number_shown), unfolding(content::specs::Reading::content_at, content::specs::Reading::string_at))]
+#[tactic(auto, using(crate::proofs::Numbers::number_shown), unfolding(content::specs::Reading::content_at, content::specs::Reading::string_at, events::specs::Events::kind_code))]
 fn shown(w: Window<'_>, t: JsonbType) -> Result<Sight, Refusal>
     requires { 1 ≤ w.at }
     ensures { result ≡ sight_of (content_at w.entry.doc.now t w.entry.at w.entry.end) w.entry.at }
