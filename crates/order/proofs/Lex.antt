@@ -1,20 +1,18 @@
 -- Numbers of as many digits are in the order of the first place where they differ; and nine groups among seventeen places.
 -- Assumes nothing.
 use mathlib.Core.Path.{◌≡◌, refl, sym, ap, ◌∙◌}
-use mathlib.Core.Bool.{Bool, true, false, cond}
+use mathlib.Core.Bool.{Bool, true, false}
 use mathlib.Core.List.{List, [], ◌∷◌, ◌++◌}
 use mathlib.Core.Logic.{⊎_elim}
-use Prim.Native.Nat.{ℕ, zero, suc, ◌+◌, ◌-◌, ◌*◌, ◌^◌, ◌≤◌, ◌<◌, min}
-use native.Mathlib.Nat.{eq-or-lt_of_le, le_of_suc-le-suc, not-suc-le-zero, pow-zero, pow-succ', zero-mul, zero-add, mul-le-mul_right, mul-lt-mul_of_pos_right, sub-zero, suc-sub-suc, le_refl, le_of_lt, mul-pos, eq-zero-or-pos}
+use Prim.Native.Nat.{ℕ, zero, suc, ◌+◌, ◌-◌, ◌*◌, ◌^◌, ◌≤◌, ◌<◌}
+use native.Mathlib.Nat.{eq-or-lt_of_le, pow-zero, pow-succ', zero-mul, zero-add, mul-le-mul_right, mul-lt-mul_of_pos_right, le_refl, le_of_lt, mul-pos, eq-zero-or-pos}
 use native.Mathlib.Omega.{arith}
-use lib.Dec.{ltb, lit<, leb-suc-suc}
+use lib.Dec.{ltb, lit<}
 use lib.Pow.{pow-add}
-use lib.Arith.{digits_lt}
-use lib.ListN.{take, length, get_or, replicate, length-append, length-replicate}
-use lib.Seq.{ext_get_or}
+use lib.ListN.{length, get_or, replicate, length-append, length-replicate}
 use borrow.Author.Tests.{eq-eqb, ne_eqb, lt-ltb, le-ltb, ltb-true, ltb-false}
 use borrow.Rule.Slice.PartMut.{put_mid}
-use Rattle.std.proofs.lemmas.List.{take_all, take-replicate, drop-replicate}
+use Rattle.std.proofs.lemmas.List.{take-replicate, drop-replicate}
 use Rattle.groups.specs.Numbers.{number, Below}
 use Rattle.groups.proofs.Caps.{same_test, below_or_not}
 use Rattle.groups.proofs.Opened.{number_lt}
@@ -66,7 +64,7 @@ zeros-below n k = rw (zero-at n k) (lit< tt)
 
 pub placed_below : (n : ℕ) (gs : List ℕ) → Below 1000000000 gs → Below 1000000000 (placed n gs)
 unfolding placed
-placed_below n gs h = 
+placed_below n gs h =
     below-append 1000000000 (replicate (8 - n) 0) (gs ++ replicate n 0) (zeros-below (8 - n)) (below-append 1000000000 gs (replicate n 0) h (zeros-below n))
 
 pub placed-length : (n : ℕ) (gs : List ℕ) → n ≤ 8 → length gs ≡ 9 → length (placed n gs) ≡ 17
@@ -108,9 +106,9 @@ module _ (b : ℕ) where
       ⊎_elim
       (λ (l : x < y). simp (lt-ltb x y l) (sym (less _ _ (rw (← n) (leads x y _ _ _ l p)))))
       (λ (g : y ≤ x). ⊎_elim
-        (λ (e : y ≡ x). rw e (simp (le-ltb x x (le_refl x), eq-eqb x x refl) (rw (n, shifted (x * b ^ length ys) (number b xs) (number b ys)) (cmp-is xs ys n (λ k. hx (suc k)) (λ k. hy (suc k))))))
-        (λ (l : y < x). simp (le-ltb x y g, ne_eqb x y (λ (e : x ≡ y). omega arith)) (sym (greater _ _ (rw (← n) (leads y x _ _ _ l q)))))
-        (eq-or-lt_of_le g))
+      (λ (e : y ≡ x). rw e (simp (le-ltb x x (le_refl x), eq-eqb x x refl) (rw (n, shifted (x * b ^ length ys) (number b xs) (number b ys)) (cmp-is xs ys n (λ k. hx (suc k)) (λ k. hy (suc k))))))
+      (λ (l : y < x). simp (le-ltb x y g, ne_eqb x y (λ (e : x ≡ y). omega arith)) (sym (greater _ _ (rw (← n) (leads y x _ _ _ l q)))))
+      (eq-or-lt_of_le g))
       (below_or_not x y)
     where
       n : length xs ≡ length ys
@@ -150,10 +148,9 @@ all-zero b [] h = refl
 all-zero b (x ∷ xs) h = rw (h 0 (omega arith), zero-mul, zero-add) (all-zero b xs (λ k l. h (suc k) (omega arith)))
 
 -- ---- zeros, and the groups written over them from the first place on
-pub placed-written : (n : ℕ) (gs copied : List ℕ) → n ≤ 8 → copied ≡ take (8 - n + 9 - (8 - n)) gs → length gs ≡ 9 → put_mid (8 - n) (8 - n + 9 - (8 - n)) (replicate 17 0) copied ≡ placed n gs
+pub placed-written : (n : ℕ) (gs : List ℕ) → n ≤ 8 → put_mid (8 - n) (8 - n + 9 - (8 - n)) (replicate 17 0) gs ≡ placed n gs
 unfolding placed
-placed-written n gs copied h c l =
-    let w : copied ≡ gs = c ∙ take_all _ gs (omega arith) in
+placed-written n gs h =
     let q : 17 - (8 - n) - (8 - n + 9 - (8 - n)) ≡ n = omega arith in
     let t = take-replicate {X = ℕ} (8 - n) 17 0 (omega arith) in
-    rw (w, t, drop-replicate, drop-replicate, q) refl
+    rw (t, drop-replicate, drop-replicate, q) refl

@@ -47,6 +47,7 @@ fn compare_values(a: Formed<'_>, b: Formed<'_>) -> Ordering
 }
 
 // The order of the values of two decimals, of their parts.
+#[tactic(auto, unfolding(crate::specs::Value::compare_told))]
 pub fn compare(a: &Parts, b: &Parts) -> Result<Ordering, Refusal>
     ensures { told result ≡ compare_told a.now b.now }
 {

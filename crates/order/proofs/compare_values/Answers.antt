@@ -1,6 +1,6 @@
 -- Signs decide where they differ, since none stands on a zero; of two negative values the larger magnitude is the less.
 -- Assumes nothing.
-use Rattle.std.proofs.Common.{◌≡◌, ℕ, List, Bool, true, ◌<◌, length, rules, arith, sym, ◌∙◌}
+use Rattle.std.proofs.Common.{◌≡◌, ℕ, List, Bool, true, ◌<◌, length, sym}
 use Rattle.groups.specs.Layout.{groups_of}
 use Rattle.groups.specs.Write.{well_formed}
 use Rattle.groups.proofs.Sign.{formed-sign}

@@ -1,15 +1,13 @@
 -- Where the points meet the groups alone decide, and else the places.
 -- Assumes nothing.
-use Rattle.std.proofs.Common.{◌≡◌, ℕ, List, ◌+◌, ◌-◌, ◌≤◌, true, length, rules, arith, sym, ◌∙◌}
+use Rattle.std.proofs.Common.{◌≡◌, ℕ, List, ◌≤◌, true, arith, sym, ◌∙◌}
 use Rattle.groups.specs.Layout.{groups_of}
-use Rattle.groups.specs.Numbers.{Below}
 use Rattle.groups.proofs.Accept.{well-digits}
 use Rattle.groups.proofs.Base.{well-below}
 use Rattle.groups.proofs.Places.{ceil-nine}
 use Rattle.groups.proofs.Sign.{formed-groups}
 use Rattle.groups.specs.Write.{well_groups}
-use Rattle.order.specs.Course.{placed, order_n}
-use Rattle.order.specs.Value.{magnitude}
+use Rattle.order.specs.Course.{placed}
 use Rattle.order.proofs.Lex.{cmp-is, order-scaled, placed-number, placed-length, placed_below}
 use Rattle.order.proofs.order_of.Goals as goal
 

@@ -1,7 +1,6 @@
 -- The groups stand from the first place on, with zeros before and after them.
 -- Assumes nothing.
-use Rattle.std.proofs.Common.{◌≡◌, ℕ, List, ◌+◌, ◌-◌, ◌≤◌, replicate, rules, arith, sym, ◌∙◌}
-use borrow.Rule.Slice.PartMut.{put_mid}
+use Rattle.std.proofs.Common.{◌≡◌, ◌≤◌, arith, ◌∙◌}
 use Rattle.groups.specs.Layout.{groups_of}
 use Rattle.groups.proofs.Accept.{well-digits}
 use Rattle.groups.proofs.Places.{ceil-nine}
@@ -20,4 +19,4 @@ returns c =
     let h = well-digits _ _ _ (formed-groups _ _ _ _ c.args.d.well) in
     let e : c.div_ceil-first.result ≡ groups_of c.args.d.parts.now.intg = c.div_ceil-first.ensures ∙ ceil-nine c.args.d.parts.now.intg in
     let m : groups_of c.args.d.parts.now.intg ≤ 8 = omega arith in
-    rw e (placed-written (groups_of c.args.d.parts.now.intg) c.args.d.parts.now.groups c.copy_from_slice.new.self m ? (search rules))
+    rw (e, c.copy_from_slice.ensures.after) (placed-written (groups_of c.args.d.parts.now.intg) c.args.d.parts.now.groups m)
