@@ -49,16 +49,21 @@ fn low(n: usize) -> u32
 }
 
 // How a walk ended: two numbers, of a refusal too.
+#[tactic(auto, unfolding(lent::specs::Layout::returned, lent::specs::Layout::remains, lent::specs::Layout::laid))]
 pub fn put_walked(answer: &mut [u32], w: Result<usize, Stopped>) -> u32
     ensures { Relays 2 (walked_told w) answer.old result answer.new }
 {
+    if answer.len() < 2 {
+        return u32::from(Refusal::Room.number());
+    }
     match w {
-        Ok(count) => lent::relay(answer, Ok([low(count), 0])),
-        Err(stopped) => {
-            match lent::relay(answer, Ok([low(stopped.count), low(stopped.place)])) {
-                0 => u32::from(stopped.refusal.number()),
-                short => short,
-            }
+        Ok(count) => {
+            answer[..2].copy_from_slice(&[low(count), 0]);
+            0
+        }
+        Err(s) => {
+            answer[..2].copy_from_slice(&[low(s.count), low(s.place)]);
+            u32::from(s.refusal.number())
         }
     }
 }
