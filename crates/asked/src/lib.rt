@@ -1,4 +1,5 @@
-// The words of a request, a line with one space between two, and what they write. A word that is not what is asked for makes the line no request.
+// What a line asks: its words, with one space between two, and the numbers and the bytes that they write. A word that is not what is asked for makes the line no
+// request.
 #![tactic(auto)]
 
 use std::io;
@@ -19,17 +20,21 @@ impl From<io::Error> for Fault {
     }
 }
 
-// The words that are left of a line.
+// The words that are left of a line, and a room for the bytes that one of them writes.
 #[derive(Drop)]
-pub struct Words<'a>(Split<'a, char>);
+pub struct Asked<'a> {
+    words: Split<'a, char>,
+    room: &'a mut [u8],
+}
 
-impl<'a> Words<'a> {
-    pub fn new(line: &'a str) -> Words<'a> {
-        Words(line.split(' '))
+impl<'a> Asked<'a> {
+    pub fn new(line: &'a str, room: &'a mut [u8]) -> Asked<'a> {
+        let words = line.split(' ');
+        Asked { words, room }
     }
 
     pub fn word(&mut self) -> Result<&'a str, Fault> {
-        self.0.next().ok_or(Fault::NoRequest)
+        self.words.next().ok_or(Fault::NoRequest)
     }
 
     pub fn number(&mut self) -> Result<u32, Fault> {
@@ -50,15 +55,26 @@ impl<'a> Words<'a> {
         Ok(self.number_to(1)? == 1)
     }
 
-    // Bytes, which go to the front of a room.
-    pub fn bytes<'r>(&mut self, room: &'r mut [u8]) -> Result<&'r [u8], Fault> {
-        let n = hexadecimal::bytes(self.word()?.as_bytes(), room).ok_or(Fault::NoRequest)?;
-        room.get(..n).ok_or(Fault::NoRequest)
+    pub fn bytes(&mut self) -> Result<&[u8], Fault> {
+        let word = self.word()?;
+        self.written(word)
     }
 
-    // Whether no word is left.
+    // The bytes that the last word writes.
+    pub fn last_bytes(&mut self) -> Result<&[u8], Fault> {
+        let word = self.word()?;
+        self.end()?;
+        self.written(word)
+    }
+
+    fn written(&mut self, word: &str) -> Result<&[u8], Fault> {
+        let n = hexadecimal::bytes(word.as_bytes(), self.room).ok_or(Fault::NoRequest)?;
+        self.room.get(..n).ok_or(Fault::NoRequest)
+    }
+
+    // That no word is left.
     pub fn end(&mut self) -> Result<(), Fault> {
-        match self.0.next() {
+        match self.words.next() {
             None => Ok(()),
             Some(_) => Err(Fault::NoRequest),
         }

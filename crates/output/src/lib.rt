@@ -62,6 +62,19 @@ impl<T: Display> Display for Answer<T> {
     }
 }
 
+// Something, or a word for nothing.
+#[derive(Clone, Copy)]
+pub struct Or<T>(pub Option<T>, pub &'static str);
+
+impl<T: Display> Display for Or<T> {
+    fn fmt<W: fmt::Write>(&self, f: &mut Formatter<W>) -> fmt::Result {
+        match &self.0 {
+            Some(x) => write!(f, "{x}"),
+            None => write!(f, "{}", self.1),
+        }
+    }
+}
+
 // Bytes in hexadecimal digits.
 #[derive(Clone, Copy)]
 pub struct Hex<'a>(pub &'a [u8]);
@@ -103,7 +116,8 @@ impl Display for Ascii<'_> {
 
 // ---- what a function writes to a room
 
-const ROOM: usize = 128;
+// The bytes of the room.
+pub const ROOM: usize = 128;
 
 // What a byte of the room holds before.
 const FILL: u8 = 165;
@@ -135,4 +149,8 @@ impl Written {
         let n = self.len.unwrap_or(0);
         self.room.iter().skip(n).all(|b| *b == FILL)
     }
+}
+
+pub fn kept(is_kept: bool) -> &'static str {
+    if is_kept { "kept" } else { "touched" }
 }
