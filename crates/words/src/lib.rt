@@ -33,6 +33,12 @@ impl<'a> Container<'a> {
         Container { doc, view }
     }
 
+    // Its view in another document.
+    pub fn in_doc<'b>(self, doc: &'b [u8]) -> Container<'b> {
+        let view = self.view;
+        Container { doc, view }
+    }
+
     // Its view with another count.
     pub fn with_count(self, count: u32) -> Container<'a> {
         let doc = self.doc;
