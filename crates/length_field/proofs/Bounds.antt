@@ -9,7 +9,10 @@ use lib.Dec.{ltb}
 use lib.ListN.{length, take, drop}
 use lib.Seq.{slice}
 use borrow.Author.Tests.{ltb-true}
-use Rattle.refusal.specs.Told.{Told, answer, refusal}
+use Rattle.std.specs.Prelude.{Result, Ok, Err}
+use Rattle.refusal.specs.declared.Refusal.{Refusal}
+use Rattle.length_field.specs.declared.Length.{Length}
+use Rattle.refusal.specs.declared.Refusal.TheVariants as refusal
 use Rattle.raw.proofs.Parts.{slice-length}
 use Rattle.length_field.specs.Length.{Groups, got, short, long, above, groups, field_of, length_at}
 
@@ -47,21 +50,21 @@ taken (suc n) (b ∷ s) = go (ltb b 128) (taken-above (length s) (b - 128) (grou
     go false a = a
 
 module _ (doc : List ℕ) (at end n next : ℕ) where
-  placed : (g : Groups) → Taken (min end (length doc) - at) g → field_of at g ≡ answer (n ∷ next ∷ []) → Placed doc at end n next
+  placed : (g : Groups) → Taken (min end (length doc) - at) g → field_of at g ≡ Ok (record { length = n; next = next }) → Placed doc at end n next
   placed (got v k) t e = go (ltb v 4294967296) refl e
     where
-      go : (b : Bool) → ltb v 4294967296 ≡ b → cond b (answer (v ∷ (at + k) ∷ [])) (refusal 8) ≡ answer (n ∷ next ∷ []) → Placed doc at end n next
+      go : (b : Bool) → ltb v 4294967296 ≡ b → cond {A = Result Length Refusal} b (Ok (record { length = v; next = at + k })) (Err refusal.Length) ≡ Ok (record { length = n; next = next }) → Placed doc at end n next
       go true l e =
-          let d : v ∷ (at + k) ∷ [] ≡ n ∷ next ∷ [] = ap (λ (r : Told). r.values) e in
-          let x : v ≡ n = cc in
-          let y : at + k ≡ next = cc in
           let h = ltb-true v 4294967296 l in
+          let r : ◌≡◌ {A = Length} (record { length = v; next = at + k }) (record { length = n; next = next }) = cc in
+          let x = ap (λ (r : Length). r.length) r in
+          let y = ap (λ (r : Length). r.next) r in
           record { small = omega arith; past = omega arith; within = omega arith; there = omega arith }
-      go false l e = absurd (omega (arith, ap (λ (r : Told). r.number) e))
-  placed short t e = absurd (omega (arith, ap (λ (r : Told). r.number) e))
-  placed long t e = absurd (omega (arith, ap (λ (r : Told). r.number) e))
+      go false l e = cc
+  placed short t e = cc
+  placed long t e = cc
 
-  pub length-placed : length_at doc at end ≡ answer (n ∷ next ∷ []) → Placed doc at end n next
+  pub length-placed : length_at doc at end ≡ Ok (record { length = n; next = next }) → Placed doc at end n next
   unfolding length_at
   length-placed e =
       let s = slice at end doc in

@@ -1,7 +1,7 @@
 -- The length field, group by group: what the groups passed hold, put below the groups to come, is the whole field.
 -- Assumes nothing.
 use mathlib.Core.Path.{◌≡◌, refl, sym, ap, ◌∙◌}
-use mathlib.Core.List.{List, [], ◌∷◌}
+use mathlib.Core.List.{List}
 use Prim.Native.Nat.{ℕ, suc, ◌+◌, ◌-◌, ◌*◌, ◌^◌, ◌≤◌, ◌<◌, min}
 use native.Mathlib.Nat.{mul-le-mul_left, pow-le-pow_right, pow-suc}
 use native.Mathlib.Numerals.{add-one}
@@ -9,15 +9,10 @@ use native.Mathlib.Omega.{arith}
 use lib.ListN.{length, get_or, drop, drop_of_length-le}
 use lib.Seq.{slice, drop-cons}
 use borrow.Author.Tests.{lt-ltb, le-ltb}
-use Rattle.refusal.specs.Told.{answer, refusal}
+use Rattle.std.specs.Prelude.{Ok, Err}
+use Rattle.refusal.specs.declared.Refusal.TheVariants as refusal
 use Rattle.length_field.specs.Length.{Groups, got, short, long, above, groups, field_of, length_at}
 use Rattle.raw.proofs.Parts.{slice-length, slice_at}
-
-pub fits : (at n k : ℕ) → n < 4294967296 → answer (n ∷ (at + k) ∷ []) ≡ field_of at (got n k)
-fits at n k h = simp (lt-ltb n 4294967296 h)
-
-pub large : (at n k : ℕ) → 4294967296 ≤ n → refusal 8 ≡ field_of at (got n k)
-large at n k h = simp (le-ltb n 4294967296 h)
 
 -- ---- the groups from place k on, of m
 module _ (m k : ℕ) (s : List ℕ) (h : k < m) where
@@ -66,11 +61,11 @@ pub passed_none : (doc : List ℕ) (at end : ℕ) → Passed doc at end 0 1 0
 passed_none doc at end = onto-none (groups 5 (slice at end doc))
 
 module _ (doc : List ℕ) (at end low unit k : ℕ) (p : Passed doc at end low unit k) where
-  pub cut-here : k < 5 → min end (length doc) - at ≤ k → refusal 3 ≡ length_at doc at end
+  pub cut-here : k < 5 → min end (length doc) - at ≤ k → Err refusal.Cut ≡ length_at doc at end
   unfolding length_at
   cut-here h l = sym (ap (field_of at) (p ∙ ap (onto low unit k) (cut 5 k (slice at end doc) h (rw slice-length l))))
 
-  pub long-here : 5 ≤ k → refusal 8 ≡ length_at doc at end
+  pub long-here : 5 ≤ k → Err refusal.Length ≡ length_at doc at end
   unfolding length_at groups
   long-here h =
       let e : 5 - k ≡ 0 = omega arith in
@@ -94,13 +89,13 @@ module _ (doc : List ℕ) (at end low unit k : ℕ) (p : Passed doc at end low u
         ∙ onto-above low unit k (b - 128) (groups (5 - (k + 1)) (drop (k + 1) (slice at end doc)))
 
 -- a field of one byte
-pub one : (doc : List ℕ) (at end : ℕ) → 0 < min end (length doc) - at → get_or doc at 0 < 128 → answer (get_or doc at 0 ∷ (at + 1) ∷ []) ≡ length_at doc at end
+pub one : (doc : List ℕ) (at end : ℕ) → 0 < min end (length doc) - at → get_or doc at 0 < 128 → length_at doc at end ≡ Ok (record { length = get_or doc at 0; next = at + 1 })
 unfolding length_at
 one doc at end l t =
     let z : at + 0 ≡ at = omega arith in
     let b = rw z at (slice_at doc at end 0 l) in
-    fits at (get_or doc at 0) 1 (omega arith)
-    ∙ sym (ap (field_of at) (rw b at (last 5 0 (slice at end doc) (omega arith) (rw slice-length l) (rw b t))))
+    ap (field_of at) (rw b at (last 5 0 (slice at end doc) (omega arith) (rw slice-length l) (rw b t)))
+    ∙ simp (lt-ltb (get_or doc at 0) 4294967296 (omega arith))
 
 -- ---- bounds
 pub bound : (low unit k x : ℕ) → unit ≡ 128 ^ k → k < 5 → low < unit → x < 128 → (low + unit * x < unit * 128) × (unit * 128 ≤ 34359738368)

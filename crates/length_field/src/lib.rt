@@ -1,72 +1,55 @@
 // The length field of strings and opaque values, at a place of a document and never past an end.
 #![tactic(auto)]
 
-ghost use Rattle.std.specs.Prelude.{◌≡◌, ◌+◌, ◌<◌, ◌^◌};
-ghost use Rattle.length_field.specs.Length.{got, field_of, told, length_at};
+ghost use Rattle.std.specs.Prelude.{◌≡◌, ◌<◌, ◌≤◌, length, IfOk};
+ghost use Rattle.length_field.specs.Length.{length_at};
 
-// A length field: the length, and the place past the field; or a refusal.
-#[derive(Clone, Copy)]
-pub enum Length {
-    Field { length: u32, next: usize },
-    Refused(u8),
-}
+use refusal::Refusal;
 
-fn wide(x: u8) -> u64
-    ensures { (result ≡ x) × (result < 256) }
-{
-    x as u64
-}
-
-// The field of k groups that hold n.
-fn fitting(at: usize, n: u64, k: usize) -> Length
-    requires { at + k < 2 ^ 64 }
-    ensures { told result ≡ field_of at (got n k) }
-{
-    if n < 4294967296 {
-        Length::Field {
-            length: n as u32,
-            next: at + k,
-        }
-    } else {
-        Length::Refused(refusal::LENGTH)
-    }
+// What a length field says: the length, and the place past the field.
+#[derive(Clone, Copy, Debug, PartialEq, Eq)]
+pub struct Length {
+    pub length: u32,
+    pub next: usize,
 }
 
 // Group by group: `low` is what the k groups passed hold, and `unit` what the next one counts.
-fn grouped(doc: &[u8], at: usize, end: usize) -> Length
-    ensures { told result ≡ length_at doc.now at end }
+fn grouped(doc: &[u8], at: usize, end: usize) -> Result<Length, Refusal>
+    ensures value { result ≡ length_at doc.now at end }
+    ensures within { IfOk result (λ f. (at < f.next) × (f.next ≤ end) × (f.next ≤ length doc.now)) }
 {
-    let n = raw::left(doc, at, end);
+    let left = raw::left(doc, at, end);
     let mut low: u64 = 0;
     let mut unit: u64 = 1;
-    let mut k: usize = 0;
-    while k < 5 {
-        if n <= k {
-            return Length::Refused(refusal::CUT);
+    for k in 0..5 {
+        if left <= k {
+            return Err(Refusal::Cut);
         }
-        let b = wide(doc[at + k]);
+        let b = u64::from(doc[at + k]);
         if b < 128 {
-            return fitting(at, low + unit * b, k + 1);
+            let length = u32::try_from(low + unit * b).map_err(|_| Refusal::Length)?;
+            return Ok(Length {
+                length,
+                next: at + k + 1,
+            });
         }
-        low = low + unit * (b - 128);
-        unit = unit * 128;
-        k += 1;
+        low += unit * (b - 128);
+        unit *= 128;
     }
-    Length::Refused(refusal::LENGTH)
+    Err(Refusal::Length)
 }
 
-// Most fields have one byte.
-pub fn length_at(doc: &[u8], at: usize, end: usize) -> Length
-    ensures { told result ≡ length_at doc.now at end }
+// Most fields have one byte, which takes nine instructions more in the loop.
+#[tactic(auto, using(crate::proofs::Fields::one))]
+pub fn length_at(doc: &[u8], at: usize, end: usize) -> Result<Length, Refusal>
+    ensures value { result ≡ length_at doc.now at end }
+    ensures within { IfOk result (λ f. (at < f.next) × (f.next ≤ end) × (f.next ≤ length doc.now)) }
 {
-    if 0 < raw::left(doc, at, end) {
-        let b = doc[at];
-        if b < 128 {
-            return Length::Field {
-                length: b as u32,
-                next: at + 1,
-            };
-        }
+    if 0 < raw::left(doc, at, end) && doc[at] < 128 {
+        return Ok(Length {
+            length: u32::from(doc[at]),
+            next: at + 1,
+        });
     }
     grouped(doc, at, end)
 }

@@ -1,15 +1,16 @@
 -- What a caller may rely on: where a number's bytes are, and how large it is.
 -- Assumes nothing.
-use mathlib.Core.Path.{◌≡◌, refl, ap}
+use mathlib.Core.Path.{◌≡◌, refl, sym, ap, ◌∙◌}
 use mathlib.Core.List.{List, [], ◌∷◌}
-use Prim.Native.Nat.{ℕ, zero, suc, ◌+◌, ◌*◌, ◌^◌, ◌≤◌, ◌<◌}
+use Prim.Native.Nat.{ℕ, zero, suc, ◌+◌, ◌*◌, ◌-◌, ◌^◌, ◌≤◌, ◌<◌, min}
 use native.Mathlib.Nat.{min-le_left}
 use native.Mathlib.Omega.{arith}
 use lib.ListN.{length, take, drop, length-take}
 use lib.Seq.{slice, take-take}
+use Rattle.std.proofs.lemmas.List.{take_all}
 use Rattle.raw.specs.Numbers.{value, le}
-use Rattle.raw.proofs.Parts.{slice-bytes}
-use Rattle.raw.proofs.Values.{value-split, Bytes, bytes_take, value-below}
+use Rattle.raw.proofs.Parts.{slice-bytes, slice-length}
+use Rattle.raw.proofs.Values.{value-split, Bytes, bytes_take, bytes_drop, value-below}
 
 -- v + w bytes are v, and w above them
 pub le_split : (v w : ℕ) (doc : List ℕ) (at end : ℕ) → le (v + w) doc at end ≡ le v doc at end + 256 ^ v * le w doc (at + v) end
@@ -32,6 +33,24 @@ take-slice w (suc at) (suc end) (x ∷ doc) h = take-slice w at end doc (omega a
 pub le-inside : (w : ℕ) (doc : List ℕ) (at end : ℕ) → at + w ≤ end → le w doc at end ≡ value (take w (drop at doc))
 unfolding le
 le-inside w doc at end h = ap value (take-slice w at end doc h)
+
+-- where fewer are left than w bytes, the number is of those
+pub le-part : (w n : ℕ) (doc : List ℕ) (at end : ℕ) → n ≡ min end (length doc) - at → n ≤ w → le w doc at end ≡ value (take n (drop at doc))
+unfolding le
+le-part w zero doc at end e h =
+    let s = slice at end doc in
+    let l : length s ≡ 0 = slice-length doc at end ∙ sym e in
+    ap value (take_all w s (omega arith) ∙ sym (take_all 0 s (omega arith)))
+le-part w (suc n) doc at end e h =
+    let s = slice at end doc in
+    let l : length s ≡ suc n = slice-length doc at end ∙ sym e in
+    ap value (take_all w s (omega arith) ∙ sym (take_all (suc n) s (omega arith)) ∙ take-slice (suc n) at end doc (omega arith))
+
+-- w bytes of the document hold no more
+pub whole_below : (w : ℕ) (doc : List ℕ) (at : ℕ) → Bytes doc → value (take w (drop at doc)) < 256 ^ w
+whole_below w doc at p =
+    let s = drop at doc in
+    value-below w (take w s) (bytes_take w s (bytes_drop at doc p)) (rw length-take (min-le_left w (length s)))
 
 -- what stands at the end or past it does not count
 pub le_same : (w : ℕ) (a b : List ℕ) (at end : ℕ) → take end a ≡ take end b → le w a at end ≡ le w b at end

@@ -4,10 +4,9 @@ use mathlib.Core.Path.{◌≡◌, ap, ◌∙◌}
 use mathlib.Core.List.{List, [], ◌∷◌}
 use Prim.Native.Nat.{ℕ, zero, suc, ◌+◌, ◌*◌, ◌^◌, ◌≤◌, ◌<◌}
 use native.Mathlib.Nat.{zero-add, suc-add, pow-succ', mul_assoc, pow-le-pow_right}
-use native.Mathlib.Numerals.{add-one}
 use native.Mathlib.Omega.{arith}
 use lib.ListN.{length, get_or, take, drop}
-use lib.Seq.{take-nil, drop-nil, drop-drop, drop-cons}
+use lib.Seq.{take-nil, drop-nil, drop-drop}
 use Rattle.raw.specs.Numbers.{value}
 
 -- v + w bytes are v, and w above them
@@ -31,11 +30,6 @@ value-one (suc i) (x ∷ l) = value-one i l
 
 pub value-two : (i : ℕ) (l : List ℕ) → get_or l i 0 + 256 * get_or l (i + 1) 0 ≡ value (take 2 (drop i l))
 value-two i l = omega (arith, value-split 1 1 i l, value-one i l, value-one (i + 1) l)
-
--- from the last byte down
-pub value-more : (i : ℕ) (l : List ℕ) → i < length l → value (drop i l) ≡ 256 * value (drop (i + 1) l) + get_or l i 0
-unfolding value
-value-more i l h = rw (add-one, drop-cons l i 0 h) (omega arith)
 
 -- ---- bounds
 abbrev pub Bytes : List ℕ → Type 0

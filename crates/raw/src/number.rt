@@ -2,66 +2,46 @@
 ghost use Rattle.std.specs.Prelude.{◌≡◌, ◌+◌, ◌-◌, ◌^◌, ◌≤◌, ◌<◌, min, length, take, drop};
 ghost use Rattle.raw.specs.Numbers.{value, le};
 
-fn wide(x: u8) -> u64
-    ensures { (result ≡ x) × (result < 256) }
-{
-    x as u64
-}
-
-fn lesser(a: usize, b: usize) -> usize
-    ensures { result ≡ min a b }
-{
-    if b < a { b } else { a }
-}
-
 // How many bytes stand at a place, before the end.
 pub fn left(doc: &[u8], at: usize, end: usize) -> usize
     ensures { result ≡ min end (length doc.now) - at }
 {
-    let stop = lesser(end, doc.len());
-    if at < stop { stop - at } else { 0 }
+    end.min(doc.len()).saturating_sub(at)
 }
 
-// Two, four and eight bytes that are all there.
-fn whole16(doc: &[u8], at: usize) -> u64
-    requires { at + 2 ≤ length doc.now }
-    ensures { (result ≡ value (take 2 (drop at doc.now))) × (result < 65536) }
+// The number that up to eight bytes write.
+#[tactic(auto, using(crate::proofs::Filled::filled))]
+fn number(part: &[u8]) -> u64
+    requires { length part.now ≤ 8 }
+    ensures { result ≡ value part.now }
 {
-    let low = wide(doc[at]);
-    let high = wide(doc[at + 1]);
-    low + 256 * high
+    let mut bytes = [0; 8];
+    bytes[..part.len()].copy_from_slice(part);
+    u64::from_le_bytes(bytes)
 }
 
-fn whole32(doc: &[u8], at: usize) -> u64
-    requires { at + 4 ≤ length doc.now }
-    ensures { (result ≡ value (take 4 (drop at doc.now))) × (result < 4294967296) }
+// The number of W bytes that are all there: one load.
+pub fn whole<const W: usize>(doc: &[u8], at: usize) -> u64
+    requires width { W ≤ 8 }
+    requires all_there { at + W ≤ length doc.now }
+    ensures value { result ≡ value (take W (drop at doc.now)) }
+    ensures upper_bound { result < 256 ^ W }
 {
-    let low = whole16(doc, at);
-    let high = whole16(doc, at + 2);
-    low + 65536 * high
+    number(&doc[at..at + W])
 }
 
-fn whole64(doc: &[u8], at: usize) -> u64
-    requires { at + 8 ≤ length doc.now }
-    ensures { result ≡ value (take 8 (drop at doc.now)) }
+// The number of those of W bytes that are there. The three widths have names of their own below, which ask nothing of a caller.
+fn le_at<const W: usize>(doc: &[u8], at: usize, end: usize) -> u64
+    requires { W ≤ 8 }
+    ensures value { result ≡ le W doc.now at end }
+    ensures upper_bound { result < 256 ^ W }
 {
-    let low = whole32(doc, at);
-    let high = whole32(doc, at + 4);
-    low + 4294967296 * high
-}
-
-// Of w bytes those that are there.
-fn partial(doc: &[u8], at: usize, end: usize, w: usize) -> u64
-    requires { w ≤ 8 }
-    ensures { (result ≡ le w doc.now at end) × (result < 256 ^ w) }
-{
-    let mut i = lesser(w, left(doc, at, end));
-    let mut x: u64 = 0;
-    while 0 < i {
-        i -= 1;
-        x = 256 * x + wide(doc[at + i]);
+    match left(doc, at, end) {
+        // the place may lie past the document
+        0 => 0,
+        n if n < W => number(&doc[at..at + n]),
+        _ => whole::<W>(doc, at),
     }
-    x
 }
 
 // The two bytes at a place.
@@ -69,10 +49,7 @@ pub fn u16_at(doc: &[u8], at: usize, end: usize) -> u64
     ensures value { result ≡ le 2 doc.now at end }
     ensures upper_bound { result < 65536 }
 {
-    if 2 <= left(doc, at, end) {
-        return whole16(doc, at);
-    }
-    partial(doc, at, end, 2)
+    le_at::<2>(doc, at, end)
 }
 
 // The four bytes at a place.
@@ -80,18 +57,12 @@ pub fn u32_at(doc: &[u8], at: usize, end: usize) -> u64
     ensures value { result ≡ le 4 doc.now at end }
     ensures upper_bound { result < 4294967296 }
 {
-    if 4 <= left(doc, at, end) {
-        return whole32(doc, at);
-    }
-    partial(doc, at, end, 4)
+    le_at::<4>(doc, at, end)
 }
 
 // The eight bytes at a place.
 pub fn u64_at(doc: &[u8], at: usize, end: usize) -> u64
     ensures { result ≡ le 8 doc.now at end }
 {
-    if 8 <= left(doc, at, end) {
-        return whole64(doc, at);
-    }
-    partial(doc, at, end, 8)
+    le_at::<8>(doc, at, end)
 }

@@ -1,2 +1,1 @@
-pub mod Sign
 pub mod Examples
