@@ -5,9 +5,9 @@ use Rattle.codes.specs.Lists.{search}
 use Rattle.columns.specs.Columns.{code_of, type_of}
 use Rattle.columns.specs.declared.ColumnType.{ColumnType}
 use Rattle.columns.specs.declared.ColumnType.TheVariants as column
-use Rattle.columns.specs.declared.ColumnOf.TheVariants as column-of
+use Rattle.std.specs.Prelude.{Ok}
 
-pub column-found : (t : ColumnType) → type_of (code_of t) ≡ column-of.Known t
+pub column-found : (t : ColumnType) → type_of (code_of t) ≡ Ok t
 unfolding type_of search
 column-found column.Decimal = refl
 column-found column.Tiny = refl

@@ -1,11 +1,11 @@
 -- Column types: the numbers that `ColumnType` of mysql_common's src/constants.rs takes, and no more; any other byte is 10.
 -- Assumes nothing.
-use Rattle.std.specs.Prelude.{ℕ, List, [], ◌∷◌}
+use Rattle.std.specs.Prelude.{ℕ, List, [], ◌∷◌, Result, Ok, Err}
 use Rattle.codes.specs.Lists.{search}
 use Rattle.columns.specs.declared.ColumnType.{ColumnType}
 use Rattle.columns.specs.declared.ColumnType.TheVariants as type
-use Rattle.columns.specs.declared.ColumnOf.{ColumnOf}
-use Rattle.columns.specs.declared.ColumnOf.TheVariants.{Known, Refused}
+use Rattle.refusal.specs.declared.Refusal.{Refusal}
+use Rattle.refusal.specs.declared.Refusal.TheVariants as refusal
 
 abbrev pub code_of : ColumnType → ℕ
 code_of type.Decimal = 0
@@ -50,5 +50,5 @@ all = type.Decimal ∷ type.Tiny ∷ type.Short ∷ type.Long ∷ type.Float ∷
     type.TinyBlob ∷ type.MediumBlob ∷ type.LongBlob ∷ type.Blob ∷ type.VarString ∷ type.String ∷ type.Geometry ∷ []
 
 -- the one that a byte numbers
-unfoldable pub type_of : ℕ → ColumnOf
-type_of n = search code_of Known (Refused 10) all n
+unfoldable pub type_of : ℕ → Result ColumnType Refusal
+type_of n = search code_of Ok (Err refusal.Column) all n

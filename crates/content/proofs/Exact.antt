@@ -15,8 +15,8 @@ use Rattle.value.specs.declared.Scalar.TheVariants as scalar
 use Rattle.value.specs.declared.Number.{Number}
 use Rattle.value.specs.declared.Number.TheVariants.{Int, Uint, Double, Nan}
 use Rattle.content.specs.Reading.{scalar_of, double_of, number_at, content_at}
-use Rattle.content.specs.declared.Read.TheVariants as read
-use Rattle.content.proofs.Placed.{no_value}
+use Rattle.std.specs.Prelude.{Err}
+use Rattle.refusal.specs.declared.Refusal.TheVariants as refusal
 
 -- the bits of a double; other numbers have none
 abbrev pub bits_of : Number → ℕ
@@ -41,8 +41,8 @@ pub double-read : (d : List ℕ) (i e : ℕ) (x : Number) → Bytes d → conten
 unfolding content_at number_at
 double-read d i e x p q = go (ltb (e - i) 8) q
   where
-    go : (b : Bool) → cond b (read.Refused 3) (scalar_of type.Double (scalar.Number (double_of (le 8 d i e)))) ≡ scalar_of type.Double (scalar.Number x) → bits_of x ≡ le 8 d i e
-    go true h = no_value h
+    go : (b : Bool) → cond b (Err refusal.Cut) (scalar_of type.Double (scalar.Number (double_of (le 8 d i e)))) ≡ scalar_of type.Double (scalar.Number x) → bits_of x ≡ le 8 d i e
+    go true h = cc
     go false h =
         let z : double_of (le 8 d i e) ≡ x = cc in
         sym (ap bits_of z) ∙ double-bits (le 8 d i e) (le_below 8 d i e p)

@@ -1,4 +1,4 @@
 mod Doubles
-pub mod Cases
+mod Fields
 pub mod Placed
 pub mod Exact

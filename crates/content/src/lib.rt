@@ -2,98 +2,56 @@
 // container.
 #![tactic(auto)]
 
-ghost use Rattle.std.specs.Prelude.{◌≡◌, ◌≤◌, length};
+ghost use Rattle.std.specs.Prelude.{◌≡◌};
 ghost use Rattle.std.specs.Float.{binary64};
 ghost use Rattle.std.specs.Float.Ieee.{nan_bits};
-ghost use Rattle.codes.specs.declared.types.JsonbType.TheVariants.{Literal};
-ghost use Rattle.codes.specs.declared.literals.LiteralOf.TheVariants.{Known};
-ghost use Rattle.header.specs.Course.{Within};
-ghost use Rattle.content.specs.Reading.{kind, scalar_of, part_of, opaque_type, opaque_scalar, container_at, literal_of, literal_at, double_of, number_at, part_at, string_at, opaque_at, content_at, read_at};
+ghost use Rattle.content.specs.Reading.{container_at, literal_at, double_of, number_at, part_at, string_at, opaque_at, content_at, read_at};
 
-use codes::{JsonbType, LiteralOf, LiteralType};
-use columns::{ColumnOf, ColumnType};
-use header::Header;
+use codes::{JsonbType, LiteralType};
+use columns::ColumnType;
+use header::Window;
 use layout::Kind;
 use length_field::Length;
+use refusal::Refusal;
 use value::{Number, Scalar, Span, Value, View};
 
-// A value, or a refusal.
-#[derive(Clone, Copy)]
-pub enum Read {
-    Value(Value),
-    Refused(u8),
-}
-
-// The bytes after a length field, or a refusal.
-#[derive(Clone, Copy)]
-pub enum Part {
-    Bytes(Span),
-    Refused(u8),
-}
-
-fn read_container(doc: &[u8], k: Kind, at: usize, end: usize) -> Read
-    requires { Within (length doc.now) at end }
-    ensures { result ≡ container_at doc.now k at end }
+fn container(w: Window<'_>, kind: Kind) -> Result<Value, Refusal>
+    ensures { result ≡ container_at w.entry.doc.now kind w.entry.at w.entry.end }
 {
-    match header::header_at(doc, k, at, end) {
-        Header::Whole { count, size } => Read::Value(Value::Container(View {
-            start: at as u32,
-            size,
-            count,
-            kind: k,
-        })),
-        Header::Refused(n) => Read::Refused(n),
+    let header = w.header(kind)?;
+    Ok(Value::Container(View {
+        start: w.at as u32,
+        size: header.size,
+        count: header.count,
+        kind,
+    }))
+}
+
+#[tactic(auto, unfolding(crate::specs::Reading::literal_at))]
+fn literal(w: Window<'_>) -> Result<Value, Refusal>
+    ensures { result ≡ literal_at w.entry.doc.now w.entry.at w.entry.end }
+{
+    if w.end <= w.at {
+        return Err(Refusal::Cut);
     }
-}
-
-fn kind_of(object: bool, large: bool) -> Kind
-    ensures { result ≡ kind object large }
-{
-    Kind { object, large }
-}
-
-fn scalar_value(t: JsonbType, s: Scalar) -> Read
-    ensures { result ≡ scalar_of t s }
-{
-    Read::Value(Value::Scalar(t, s))
-}
-
-fn literal_scalar(t: LiteralType) -> Scalar
-    ensures { scalar_of Literal result ≡ literal_of (Known t) }
-{
-    match t {
+    let scalar = match LiteralType::try_from(w.doc[w.at])? {
         LiteralType::Null => Scalar::Null,
         LiteralType::True => Scalar::Boolean(true),
         LiteralType::False => Scalar::Boolean(false),
-    }
+    };
+    Ok(Value::Scalar(JsonbType::Literal, scalar))
 }
 
-fn literal_value(l: LiteralOf) -> Read
-    ensures { result ≡ literal_of l }
-{
-    match l {
-        LiteralOf::Known(t) => scalar_value(JsonbType::Literal, literal_scalar(t)),
-        LiteralOf::Refused(n) => Read::Refused(n),
-    }
-}
-
-fn read_literal(doc: &[u8], at: usize, end: usize) -> Read
-    requires { Within (length doc.now) at end }
-    ensures { result ≡ literal_at doc.now at end }
-{
-    if end <= at {
-        return Read::Refused(refusal::CUT);
-    }
-    literal_value(LiteralType::of(doc[at]))
-}
-
+// Whether they are the bits of a double that is no number.
+#[tactic(auto, using(crate::proofs::Doubles::nan_is))]
 fn is_nan(n: u64) -> bool
     ensures { result ≡ nan_bits binary64 n }
 {
-    let e = n % 9223372036854775808 / 4503599627370496;
-    e == 2047 && n % 4503599627370496 != 0
+    let exponent = n % 9223372036854775808 / 4503599627370496;
+    exponent == 2047 && n % 4503599627370496 != 0
 }
 
+#[tactic(auto, unfolding(crate::specs::Reading::double_of))]
 fn double(n: u64) -> Number
     ensures { result ≡ double_of n }
 {
@@ -103,97 +61,106 @@ fn double(n: u64) -> Number
     Number::Double(f64::from_bits(n))
 }
 
-// A number of w bytes that was read at a place, where they are all there.
-fn number_value(t: JsonbType, w: usize, at: usize, end: usize, x: Number) -> Read
-    requires { at ≤ end }
-    ensures { result ≡ number_at t w at end x }
+// A number that was read of so many bytes, where they are all there.
+#[tactic(auto, unfolding(crate::specs::Reading::number_at))]
+fn number(w: Window<'_>, t: JsonbType, width: usize, x: Number) -> Result<Value, Refusal>
+    ensures { result ≡ number_at t width w.entry.at w.entry.end x }
 {
-    if end - at < w {
-        return Read::Refused(refusal::CUT);
+    if w.end - w.at < width {
+        return Err(Refusal::Cut);
     }
-    scalar_value(t, Scalar::Number(x))
+    Ok(Value::Scalar(t, Scalar::Number(x)))
 }
 
 // A length field and as many bytes: where the bytes are.
-fn read_part(doc: &[u8], at: usize, end: usize) -> Part
-    requires { Within (length doc.now) at end }
-    ensures { result ≡ part_at doc.now at end }
+#[tactic(auto, using(crate::proofs::Fields::field_within), unfolding(crate::specs::Reading::part_at))]
+fn part(w: Window<'_>) -> Result<Span, Refusal>
+    ensures { result ≡ part_at w.entry.doc.now w.entry.at w.entry.end }
 {
-    match length_field::length_at(doc, at, end) {
-        Length::Field { length, next } => {
-            if end - next < length as usize {
-                return Part::Refused(refusal::CUT);
-            }
-            Part::Bytes(Span {
-                start: next as u32,
-                len: length,
-            })
-        }
-        Length::Refused(n) => Part::Refused(n),
+    let Length { length, next } = length_field::length_at(w.doc, w.at, w.end)?;
+    if w.end - next < length as usize {
+        return Err(Refusal::Cut);
     }
+    Ok(Span {
+        start: next as u32,
+        len: length,
+    })
 }
 
-fn read_string(doc: &[u8], at: usize, end: usize) -> Read
-    requires { Within (length doc.now) at end }
-    ensures { result ≡ string_at doc.now at end }
+#[tactic(auto, unfolding(crate::specs::Reading::string_at))]
+fn string(w: Window<'_>) -> Result<Value, Refusal>
+    ensures { result ≡ string_at w.entry.doc.now w.entry.at w.entry.end }
 {
-    match read_part(doc, at, end) {
-        Part::Bytes(s) => scalar_value(JsonbType::String, Scalar::String(s)),
-        Part::Refused(n) => Read::Refused(n),
-    }
+    Ok(Value::Scalar(JsonbType::String, Scalar::String(part(w)?)))
 }
 
-fn opaque_value(t: ColumnType, p: Part) -> Read
-    ensures { result ≡ part_of opaque_type (opaque_scalar t) p }
+#[tactic(auto, unfolding(crate::specs::Reading::opaque_at))]
+fn opaque(w: Window<'_>) -> Result<Value, Refusal>
+    ensures { result ≡ opaque_at w.entry.doc.now w.entry.at w.entry.end }
 {
-    match p {
-        Part::Bytes(s) => scalar_value(JsonbType::Opaque, Scalar::Opaque(t, s)),
-        Part::Refused(n) => Read::Refused(n),
+    if w.end <= w.at {
+        return Err(Refusal::Cut);
     }
+    let column = ColumnType::try_from(w.doc[w.at])?;
+    let bytes = part(Window {
+        doc: w.doc,
+        at: w.at + 1,
+        end: w.end,
+    })?;
+    Ok(Value::Scalar(JsonbType::Opaque, Scalar::Opaque(column, bytes)))
 }
 
-fn read_opaque(doc: &[u8], at: usize, end: usize) -> Read
-    requires { Within (length doc.now) at end }
-    ensures { result ≡ opaque_at doc.now at end }
+#[tactic(auto, unfolding(crate::specs::Reading::content_at))]
+fn content(w: Window<'_>, t: JsonbType) -> Result<Value, Refusal>
+    ensures { result ≡ content_at w.entry.doc.now t w.entry.at w.entry.end }
 {
-    if end <= at {
-        return Read::Refused(refusal::CUT);
-    }
-    match ColumnType::of(doc[at]) {
-        ColumnOf::Known(t) => opaque_value(t, read_part(doc, at + 1, end)),
-        ColumnOf::Refused(n) => Read::Refused(n),
-    }
-}
-
-fn read_content(doc: &[u8], t: JsonbType, at: usize, end: usize) -> Read
-    requires { Within (length doc.now) at end }
-    ensures { result ≡ content_at doc.now t at end }
-{
+    let Window { doc, at, end } = w;
     match t {
-        JsonbType::SmallObject => read_container(doc, kind_of(true, false), at, end),
-        JsonbType::LargeObject => read_container(doc, kind_of(true, true), at, end),
-        JsonbType::SmallArray => read_container(doc, kind_of(false, false), at, end),
-        JsonbType::LargeArray => read_container(doc, kind_of(false, true), at, end),
-        JsonbType::Literal => read_literal(doc, at, end),
-        JsonbType::Int16 => number_value(t, 2, at, end, Number::Int(signed::i16_at(doc, at, end))),
-        JsonbType::Uint16 => number_value(t, 2, at, end, Number::Uint(raw::u16_at(doc, at, end))),
-        JsonbType::Int32 => number_value(t, 4, at, end, Number::Int(signed::i32_at(doc, at, end))),
-        JsonbType::Uint32 => number_value(t, 4, at, end, Number::Uint(raw::u32_at(doc, at, end))),
-        JsonbType::Int64 => number_value(t, 8, at, end, Number::Int(signed::i64_at(doc, at, end))),
-        JsonbType::Uint64 => number_value(t, 8, at, end, Number::Uint(raw::u64_at(doc, at, end))),
-        JsonbType::Double => number_value(t, 8, at, end, double(raw::u64_at(doc, at, end))),
-        JsonbType::String => read_string(doc, at, end),
-        JsonbType::Opaque => read_opaque(doc, at, end),
+        JsonbType::SmallObject => container(
+            w,
+            Kind {
+                object: true,
+                large: false,
+            },
+        ),
+        JsonbType::LargeObject => container(
+            w,
+            Kind {
+                object: true,
+                large: true,
+            },
+        ),
+        JsonbType::SmallArray => container(
+            w,
+            Kind {
+                object: false,
+                large: false,
+            },
+        ),
+        JsonbType::LargeArray => container(
+            w,
+            Kind {
+                object: false,
+                large: true,
+            },
+        ),
+        JsonbType::Literal => literal(w),
+        JsonbType::Int16 => number(w, t, 2, Number::Int(signed::i16_at(doc, at, end))),
+        JsonbType::Uint16 => number(w, t, 2, Number::Uint(raw::u16_at(doc, at, end))),
+        JsonbType::Int32 => number(w, t, 4, Number::Int(signed::i32_at(doc, at, end))),
+        JsonbType::Uint32 => number(w, t, 4, Number::Uint(raw::u32_at(doc, at, end))),
+        JsonbType::Int64 => number(w, t, 8, Number::Int(signed::i64_at(doc, at, end))),
+        JsonbType::Uint64 => number(w, t, 8, Number::Uint(raw::u64_at(doc, at, end))),
+        JsonbType::Double => number(w, t, 8, double(raw::u64_at(doc, at, end))),
+        JsonbType::String => string(w),
+        JsonbType::Opaque => opaque(w),
     }
 }
 
 // The value of a type at a place, up to an end.
-pub fn value_at(doc: &[u8], t: JsonbType, at: usize, end: usize) -> Read
+#[tactic(auto, unfolding(crate::specs::Reading::read_at))]
+pub fn value_at(doc: &[u8], t: JsonbType, at: usize, end: usize) -> Result<Value, Refusal>
     ensures { result ≡ read_at doc.now t at end }
 {
-    let fault = header::place_fault(doc, at, end);
-    if fault != 0 {
-        return Read::Refused(fault);
-    }
-    read_content(doc, t, at, end)
+    content(Window::new(doc, at, end)?, t)
 }

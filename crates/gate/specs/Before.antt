@@ -1,19 +1,18 @@
 -- What comes before any entry of a container is looked at (json_binary.h of MySQL; document 01, 'Container rules').
 -- Assumes nothing.
-use Rattle.std.specs.Prelude.{ℕ, ◌+◌, ◌≤◌, ◌<◌, Bool, false, cond, List, ltb, leb, eqb, length}
+use Rattle.std.specs.Prelude.{ℕ, ◌+◌, ◌≤◌, ◌<◌, Bool, true, false, cond, List, ltb, leb, eqb, length, Result, Ok, Err}
 use Rattle.layout.specs.Layout.{header_size}
 use Rattle.header.specs.Headers.{header_read}
 use Rattle.value.specs.declared.View.{View}
 use Rattle.header.specs.declared.Header.{Header}
-use Rattle.header.specs.declared.Header.TheVariants as header
+use Rattle.refusal.specs.declared.Refusal.{Refusal}
+use Rattle.refusal.specs.declared.Refusal.TheVariants as refusal
 use Rattle.gate.specs.Said.{Said, nothing, refuses}
-use Rattle.gate.specs.declared.Gate.{Gate}
-use Rattle.gate.specs.declared.Gate.TheVariants.{Open, Nothing, Refused}
 
 -- ---- 13: the view is that of a whole container in the bytes handed in
-abbrev pub names : Header → ℕ → ℕ → Bool
-names (header.Whole n s) count size = cond (eqb n count) (eqb s size) false
-names (header.Refused f) count size = false
+abbrev pub names : Result Header Refusal → ℕ → ℕ → Bool
+names (Ok h) count size = cond (eqb h.count count) (eqb h.size size) false
+names (Err r) count size = false
 
 unfoldable pub matches : List ℕ → View → Bool
 matches d v = names (header_read d v.kind v.start (length d)) v.count v.size
@@ -24,11 +23,11 @@ gated d v asked i x =
     cond (ltb 16777216 (length d)) (refuses 1)
     (cond asked (cond (matches d v) (cond (leb v.count i) nothing x) (refuses 13)) (refuses 13))
 
--- the same, as the answer of a test alone
-unfoldable pub gate_of : List ℕ → View → Bool → ℕ → Gate
+-- the same, as the answer of a test alone: whether there is an entry
+unfoldable pub gate_of : List ℕ → View → Bool → ℕ → Result Bool Refusal
 gate_of d v asked i =
-    cond (ltb 16777216 (length d)) (Refused 1)
-    (cond asked (cond (matches d v) (cond (leb v.count i) Nothing Open) (Refused 13)) (Refused 13))
+    cond (ltb 16777216 (length d)) (Err refusal.Document)
+    (cond asked (cond (matches d v) (cond (leb v.count i) (Ok false) (Ok true)) (Err refusal.View)) (Err refusal.View))
 
 -- what an open gate is good for
 pub record Whole (d : List ℕ) (v : View) (i : ℕ) : Type 0 where

@@ -2,23 +2,22 @@
 ghost use Rattle.std.specs.Prelude.{◌≡◌};
 ghost use Rattle.jsonb.specs.Views.{root_read};
 
-use codes::{JsonbType, TypeOf};
-use content::Read;
+use codes::JsonbType;
+use refusal::Refusal;
 use value::{Scalar, Value};
 
 // The root value. The empty document is null; bytes after the root value are not read.
-pub fn deserialize(doc: &[u8]) -> Read
+#[tactic(auto, unfolding(crate::specs::Views::root_read))]
+pub fn deserialize(doc: &[u8]) -> Result<Value, Refusal>
     ensures { result ≡ root_read doc.now }
 {
     let n = doc.len();
     if 16777216 < n {
-        return Read::Refused(refusal::DOCUMENT);
+        return Err(Refusal::Document);
     }
     if n == 0 {
-        return Read::Value(Value::Scalar(JsonbType::Literal, Scalar::Null));
+        return Ok(Value::Scalar(JsonbType::Literal, Scalar::Null));
     }
-    match JsonbType::of(doc[0]) {
-        TypeOf::Known(t) => content::value_at(doc, t, 1, n),
-        TypeOf::Refused(r) => Read::Refused(r),
-    }
+    let t = JsonbType::try_from(doc[0])?;
+    content::value_at(doc, t, 1, n)
 }

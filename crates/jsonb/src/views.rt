@@ -1,44 +1,38 @@
 // A container by its view: elements, keys and the count.
 ghost use Rattle.std.specs.Prelude.{◌≡◌};
-ghost use Rattle.gate.specs.Said.{found_said, key_said};
-ghost use Rattle.jsonb.specs.Views.{elem_at, key_at, count_said, count_at};
+ghost use Rattle.gate.specs.Said.{read_said, said};
+ghost use Rattle.jsonb.specs.Views.{elem_at, key_at, count_at};
 
-use super::Count;
-use gate::{Found, Gate, Key, found_of, gate_at, is_whole, key_of};
-use value::View;
+use gate::{is_whole, item_at};
+use refusal::Refusal;
+use value::{Span, Value, View};
 
-// The element, or the member's value, at a position.
-pub fn elem_at(doc: &[u8], v: View, pos: u32) -> Found
-    ensures { found_said result ≡ elem_at doc.now v pos }
+// The element, or the member's value, at a position; nothing at or past the count.
+#[tactic(auto, using(gate::proofs::Gates::entry_gated), unfolding(crate::specs::Views::elem_at))]
+pub fn elem_at(doc: &[u8], v: View, pos: u32) -> Result<Option<Value>, Refusal>
+    ensures { said result ≡ elem_at doc.now v pos }
 {
-    match gate_at(doc, v, true, pos) {
-        Gate::Open => found_of(entry::read_entry(doc, v, pos)),
-        Gate::Nothing => Found::Nothing,
-        Gate::Refused(n) => Found::Refused(n),
-    }
+    item_at(doc, v, true, pos, || entry::read_entry(doc, v, pos))
 }
 
-// The key at a position.
-pub fn key_at(doc: &[u8], v: View, pos: u32) -> Key
-    ensures { key_said result ≡ key_at doc.now v pos }
+// The key at a position; nothing at or past the count.
+#[tactic(auto, using(gate::proofs::Gates::key_gated), unfolding(crate::specs::Views::key_at))]
+pub fn key_at(doc: &[u8], v: View, pos: u32) -> Result<Option<Span>, Refusal>
+    ensures { said result ≡ key_at doc.now v pos }
 {
-    let k = v.kind;
-    match gate_at(doc, v, k.object, pos) {
-        Gate::Open => key_of(keys::read_key(doc, v, pos)),
-        Gate::Nothing => Key::Nothing,
-        Gate::Refused(n) => Key::Refused(n),
-    }
+    item_at(doc, v, v.kind.object, pos, || keys::read_key(doc, v, pos))
 }
 
 // How many elements or members a view has.
-pub fn element_count(doc: &[u8], v: View) -> Count
-    ensures { count_said result ≡ count_at doc.now v }
+#[tactic(auto, unfolding(crate::specs::Views::count_at))]
+pub fn element_count(doc: &[u8], v: View) -> Result<u32, Refusal>
+    ensures { read_said result ≡ count_at doc.now v }
 {
     if 16777216 < doc.len() {
-        return Count::Refused(refusal::DOCUMENT);
+        return Err(Refusal::Document);
     }
-    if is_whole(doc, v) {
-        return Count::Count(v.count);
+    if !is_whole(doc, v) {
+        return Err(Refusal::View);
     }
-    Count::Refused(refusal::VIEW)
+    Ok(v.count)
 }

@@ -1,60 +1,45 @@
--- Cases of the definitions by the tests that lead to them, with what callees gave as variables of their own.
+-- The gate's answer tells whether there is an item, and of a whole container a member is what its key and its value give.
 -- Assumes nothing.
-use mathlib.Core.Path.{◌≡◌, refl, sym, ap, ◌∙◌}
+use mathlib.Core.Path.{◌≡◌, refl}
 use mathlib.Core.Bool.{Bool, true, false, cond}
 use mathlib.Core.List.{List}
-use Prim.Native.Nat.{ℕ}
+use Prim.Native.Nat.{ℕ, ◌<◌}
 use lib.ListN.{length}
 use lib.Dec.{ltb, leb}
+use Rattle.std.specs.Prelude.{Result, Ok, Err}
+use Rattle.refusal.specs.declared.Refusal.{Refusal}
+use Rattle.refusal.specs.declared.Refusal.TheVariants as refusal
 use Rattle.value.specs.declared.View.{View}
-use Rattle.content.specs.declared.Read.{Read}
-use Rattle.content.specs.declared.Part.{Part}
-use Rattle.entry.specs.Entries.{entry_at, entry_read, key_entry_at, key_read}
-use Rattle.gate.specs.Said.{Said, read_said, part_said}
-use Rattle.gate.specs.Before.{matches, gated, gate_of, Whole}
-use Rattle.gate.specs.declared.Gate.{Gate}
-use Rattle.gate.specs.declared.Gate.TheVariants.{Open, Nothing, Refused}
-use Rattle.gate.proofs.Gates.{through, gate-is, said, whole-entry, whole-key}
-use Rattle.steps.specs.Steps.{is_open, after, member_of}
+use Rattle.entry.specs.Entries.{entry_read, key_read}
+use Rattle.gate.specs.Said.{read_said}
+use Rattle.gate.specs.Before.{matches, gated, gate_of}
+use Rattle.gate.proofs.Gates.{gated_same, open-whole, whole-entry, whole-key}
+use Rattle.steps.specs.Steps.{is_open, member_of, member_item}
 
 -- whether an answer of the gate is open
-abbrev pub opened : Gate → Bool
-opened Open = true
-opened Nothing = false
-opened (Refused n) = false
+abbrev pub opened : Result Bool Refusal → Bool
+opened (Ok b) = b
+opened (Err r) = false
 
-open_by : (a b m c : Bool) →
-    opened (cond a (Refused 1) (cond b (cond m (cond c Nothing Open) (Refused 13)) (Refused 13)))
-    ≡ cond a false (cond b (cond m (cond c false true) false) false)
-open_by true b m c = refl
-open_by false false m c = refl
-open_by false true false c = refl
-open_by false true true true = refl
-open_by false true true false = refl
+module _ (d : List ℕ) (v : View) (asked : Bool) (i : ℕ) where
+  pub open_by : is_open d v asked i ≡ opened (gate_of d v asked i)
+  unfolding is_open gate_of
+  open_by = go (ltb 16777216 (length d)) asked (matches d v) (leb v.count i)
+    where
+      go : (a b m c : Bool) →
+          cond a false (cond b (cond m (cond c false true) false) false)
+          ≡ opened (cond a (Err refusal.Document) (cond b (cond m (cond c (Ok false) (Ok true)) (Err refusal.View)) (Err refusal.View)))
+      go true b m c = refl
+      go false false m c = refl
+      go false true false c = refl
+      go false true true true = refl
+      go false true true false = refl
 
--- g and h are the gate's answer as the call gave it and as the match told it
-module _ (d : List ℕ) (v : View) (asked : Bool) (i : ℕ) {g h : Gate} (ge : g ≡ gate_of d v asked i) (gh : g ≡ h) where
-  next-at : (at : ℕ) → after (opened h) at ≡ after (is_open d v asked i) at
-  unfolding gate_of is_open
-  next-at at =
-      ap (λ (b : Bool). after b at)
-      (ap opened (gate-is d v asked i ge gh) ∙ open_by (ltb 16777216 (length d)) asked (matches d v) (leb v.count i))
+  pub below : gate_of d v asked i ≡ Ok true → i < v.count
+  below e = (open-whole d v asked i e).below
 
-  -- a step: what is said, and the view and the place that follow
-  pub stepped : {A : Type 0} (x : Said A) {y : Said A} {u : View} {at : ℕ} → y ≡ through x h → (u ≡ v) × (at ≡ after (opened h) i) →
-      (y ≡ gated d v asked i x) × ((u ≡ v) × (at ≡ after (is_open d v asked i) i))
-  stepped x p q = (p ∙ said d v asked i ge gh x, (q.0, q.1 ∙ next-at i))
-
--- a member; p and r are its key and its value as callees give them
-pub member_is : (d : List ℕ) (v : View) (i : ℕ) {p q : Part} {r : Read} → p ≡ key_read d v i → p ≡ q → r ≡ entry_read d v i →
-    member_of (part_said q) (read_said r) ≡ member_of (part_said (key_read d v i)) (read_said (entry_read d v i))
-member_is d v i {p} {q} {r} pe pq re =
-    ap (λ (x : Part). member_of (part_said x) (read_said r)) (sym pq ∙ pe)
-    ∙ ap (λ (x : Read). member_of (part_said (key_read d v i)) (read_said x)) re
-
--- and of a whole container
-pub member-whole : (d : List ℕ) (v : View) (i : ℕ) → Whole d v i →
-    member_of (part_said (key_read d v i)) (read_said (entry_read d v i)) ≡ member_of (part_said (key_entry_at d v i)) (read_said (entry_at d v i))
-member-whole d v i w =
-    ap (λ (x : Part). member_of (part_said x) (read_said (entry_read d v i))) (whole-key d v i w)
-    ∙ ap (λ (x : Read). member_of (part_said (key_entry_at d v i)) (read_said x)) (whole-entry d v i w)
+-- a member is what the gate makes of what is read of any view
+pub member_is : (d : List ℕ) (v : View) (i : ℕ) →
+    member_item d v i ≡ gated d v v.kind.object i (member_of (read_said (key_read d v i)) (read_said (entry_read d v i)))
+unfolding member_item
+member_is d v i = gated_same d v v.kind.object i _ _ (λ w. rw (whole-entry d v i w, whole-key d v i w) refl)

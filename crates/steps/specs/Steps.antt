@@ -6,10 +6,9 @@ use Rattle.value.specs.declared.View.{View}
 use Rattle.value.specs.declared.Span.{Span}
 use Rattle.value.specs.declared.Value.{Value}
 use Rattle.entry.specs.Entries.{entry_at, key_entry_at}
-use Rattle.gate.specs.Said.{Said, says, nothing, refuses, read_said, part_said}
+use Rattle.gate.specs.Said.{Said, says, nothing, refuses, read_said}
 use Rattle.gate.specs.Before.{matches, gated}
 use Rattle.steps.specs.declared.Member.{Member}
-use Rattle.steps.specs.declared.Member.TheVariants as member
 
 -- whether there is an item at a place: not where the gate refuses or gives nothing
 unfoldable pub is_open : List ℕ → View → Bool → ℕ → Bool
@@ -20,18 +19,16 @@ is_open d v asked i =
 abbrev pub after : Bool → ℕ → ℕ
 after more at = cond more (at + 1) at
 
--- what a member says: its key and its value
-abbrev pub member_said : Member → Said (Span × Value)
-member_said (member.Member s x) = says (s, x)
-member_said member.Nothing = nothing
-member_said (member.Refused n) = refuses n
+-- a member: its key and its value
+abbrev pub member : Span → Value → Member
+member s x = record { key = s; value = x }
 
-abbrev pub with_value : Span → Said Value → Said (Span × Value)
-with_value s (says x) = says (s, x)
+abbrev pub with_value : Span → Said Value → Said Member
+with_value s (says x) = says (member s x)
 with_value s nothing = nothing
 with_value s (refuses n) = refuses n
 
-abbrev pub member_of : Said Span → Said Value → Said (Span × Value)
+abbrev pub member_of : Said Span → Said Value → Said Member
 member_of (says s) x = with_value s x
 member_of nothing x = nothing
 member_of (refuses n) x = refuses n
@@ -40,7 +37,7 @@ unfoldable pub element_item : List ℕ → View → ℕ → Said Value
 element_item d v i = gated d v (not v.kind.object) i (read_said (entry_at d v i))
 
 unfoldable pub key_item : List ℕ → View → ℕ → Said Span
-key_item d v i = gated d v v.kind.object i (part_said (key_entry_at d v i))
+key_item d v i = gated d v v.kind.object i (read_said (key_entry_at d v i))
 
-unfoldable pub member_item : List ℕ → View → ℕ → Said (Span × Value)
-member_item d v i = gated d v v.kind.object i (member_of (part_said (key_entry_at d v i)) (read_said (entry_at d v i)))
+unfoldable pub member_item : List ℕ → View → ℕ → Said Member
+member_item d v i = gated d v v.kind.object i (member_of (read_said (key_entry_at d v i)) (read_said (entry_at d v i)))

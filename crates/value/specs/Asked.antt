@@ -1,17 +1,14 @@
 -- What a value is asked, as mysql_common's `Value` has it: whether it is an array, an object, a signed or an unsigned number or a double, how many
 -- elements it has, and the column type of an opaque value. A double that is no number is a double.
 -- Assumes nothing.
-use Rattle.std.specs.Prelude.{Bool, true, false, not}
+use Rattle.std.specs.Prelude.{ℕ, Bool, true, false, not, Option, Some, None}
+use Rattle.columns.specs.declared.ColumnType.{ColumnType}
 use Rattle.value.specs.declared.Number.{Number}
 use Rattle.value.specs.declared.Number.TheVariants as number
 use Rattle.value.specs.declared.Scalar.{Scalar}
 use Rattle.value.specs.declared.Scalar.TheVariants as scalar
 use Rattle.value.specs.declared.Value.{Value}
 use Rattle.value.specs.declared.Value.TheVariants as value
-use Rattle.value.specs.declared.CountOf.{CountOf}
-use Rattle.value.specs.declared.CountOf.TheVariants as count_of
-use Rattle.value.specs.declared.FieldOf.{FieldOf}
-use Rattle.value.specs.declared.FieldOf.TheVariants as field_of
 
 abbrev pub is_array : Value → Bool
 is_array (value.Scalar t s) = false
@@ -62,17 +59,17 @@ abbrev pub is_double : Value → Bool
 is_double v = of_scalar (of_number is_double_number) v
 
 -- ---- a count of containers, and a column type of opaque values
-abbrev pub element_count : Value → CountOf
-element_count (value.Scalar t s) = count_of.Nothing
-element_count (value.Container v) = count_of.Count v.count
+abbrev pub element_count : Value → Option ℕ
+element_count (value.Scalar t s) = None
+element_count (value.Container v) = Some v.count
 
-abbrev pub scalar_field : Scalar → FieldOf
-scalar_field scalar.Null = field_of.Nothing
-scalar_field (scalar.Boolean b) = field_of.Nothing
-scalar_field (scalar.Number x) = field_of.Nothing
-scalar_field (scalar.String s) = field_of.Nothing
-scalar_field (scalar.Opaque t s) = field_of.Known t
+abbrev pub scalar_field : Scalar → Option ColumnType
+scalar_field scalar.Null = None
+scalar_field (scalar.Boolean b) = None
+scalar_field (scalar.Number x) = None
+scalar_field (scalar.String s) = None
+scalar_field (scalar.Opaque t s) = Some t
 
-abbrev pub field_type : Value → FieldOf
+abbrev pub field_type : Value → Option ColumnType
 field_type (value.Scalar t s) = scalar_field s
-field_type (value.Container v) = field_of.Nothing
+field_type (value.Container v) = None

@@ -1,89 +1,9 @@
 // What a value is asked.
 ghost use Rattle.std.specs.Prelude.{◌≡◌};
-ghost use Rattle.value.specs.Asked.{is_array, is_object, is_int_number, is_uint_number, is_double_number, of_number, is_int, is_uint, is_double, element_count, scalar_field, field_type};
+ghost use Rattle.value.specs.Asked.{is_array, is_object, is_int, is_uint, is_double, element_count, field_type};
 
-use super::{CountOf, FieldOf, Number, Scalar, Value};
-
-fn is_int_number(x: Number) -> bool
-    ensures { result ≡ is_int_number x }
-{
-    match x {
-        Number::Int(_) => true,
-        Number::Uint(_) => false,
-        Number::Double(_) => false,
-        Number::Nan(_) => false,
-    }
-}
-
-fn is_uint_number(x: Number) -> bool
-    ensures { result ≡ is_uint_number x }
-{
-    match x {
-        Number::Int(_) => false,
-        Number::Uint(_) => true,
-        Number::Double(_) => false,
-        Number::Nan(_) => false,
-    }
-}
-
-fn is_double_number(x: Number) -> bool
-    ensures { result ≡ is_double_number x }
-{
-    match x {
-        Number::Int(_) => false,
-        Number::Uint(_) => false,
-        Number::Double(_) => true,
-        Number::Nan(_) => true,
-    }
-}
-
-fn is_int_scalar(s: Scalar) -> bool
-    ensures { result ≡ of_number is_int_number s }
-{
-    match s {
-        Scalar::Null => false,
-        Scalar::Boolean(_) => false,
-        Scalar::Number(x) => is_int_number(x),
-        Scalar::String(_) => false,
-        Scalar::Opaque(_, _) => false,
-    }
-}
-
-fn is_uint_scalar(s: Scalar) -> bool
-    ensures { result ≡ of_number is_uint_number s }
-{
-    match s {
-        Scalar::Null => false,
-        Scalar::Boolean(_) => false,
-        Scalar::Number(x) => is_uint_number(x),
-        Scalar::String(_) => false,
-        Scalar::Opaque(_, _) => false,
-    }
-}
-
-fn is_double_scalar(s: Scalar) -> bool
-    ensures { result ≡ of_number is_double_number s }
-{
-    match s {
-        Scalar::Null => false,
-        Scalar::Boolean(_) => false,
-        Scalar::Number(x) => is_double_number(x),
-        Scalar::String(_) => false,
-        Scalar::Opaque(_, _) => false,
-    }
-}
-
-fn scalar_field(s: Scalar) -> FieldOf
-    ensures { result ≡ scalar_field s }
-{
-    match s {
-        Scalar::Null => FieldOf::Nothing,
-        Scalar::Boolean(_) => FieldOf::Nothing,
-        Scalar::Number(_) => FieldOf::Nothing,
-        Scalar::String(_) => FieldOf::Nothing,
-        Scalar::Opaque(t, _) => FieldOf::Known(t),
-    }
-}
+use super::{Number, Scalar, Value};
+use columns::ColumnType;
 
 impl Value {
     // Whether it is an array.
@@ -91,11 +11,8 @@ impl Value {
         ensures { result ≡ is_array self }
     {
         match self {
+            Value::Container(v) => !v.kind.object,
             Value::Scalar(_, _) => false,
-            Value::Container(v) => {
-                let k = v.kind;
-                !k.object
-            }
         }
     }
 
@@ -104,11 +21,8 @@ impl Value {
         ensures { result ≡ is_object self }
     {
         match self {
+            Value::Container(v) => v.kind.object,
             Value::Scalar(_, _) => false,
-            Value::Container(v) => {
-                let k = v.kind;
-                k.object
-            }
         }
     }
 
@@ -116,49 +30,43 @@ impl Value {
     pub fn is_int(self) -> bool
         ensures { result ≡ is_int self }
     {
-        match self {
-            Value::Scalar(_, s) => is_int_scalar(s),
-            Value::Container(_) => false,
-        }
+        matches!(self, Value::Scalar(_, Scalar::Number(Number::Int(_))))
     }
 
     // Whether it is an unsigned number.
     pub fn is_uint(self) -> bool
         ensures { result ≡ is_uint self }
     {
-        match self {
-            Value::Scalar(_, s) => is_uint_scalar(s),
-            Value::Container(_) => false,
-        }
+        matches!(self, Value::Scalar(_, Scalar::Number(Number::Uint(_))))
     }
 
     // Whether it is a double, one that is no number included.
     pub fn is_double(self) -> bool
         ensures { result ≡ is_double self }
     {
-        match self {
-            Value::Scalar(_, s) => is_double_scalar(s),
-            Value::Container(_) => false,
-        }
+        matches!(
+            self,
+            Value::Scalar(_, Scalar::Number(Number::Double(_) | Number::Nan(_)))
+        )
     }
 
     // The count of a container.
-    pub fn element_count(self) -> CountOf
+    pub fn element_count(self) -> Option<u32>
         ensures { result ≡ element_count self }
     {
         match self {
-            Value::Scalar(_, _) => CountOf::Nothing,
-            Value::Container(v) => CountOf::Count(v.count),
+            Value::Container(v) => Some(v.count),
+            Value::Scalar(_, _) => None,
         }
     }
 
     // The column type of an opaque value.
-    pub fn field_type(self) -> FieldOf
+    pub fn field_type(self) -> Option<ColumnType>
         ensures { result ≡ field_type self }
     {
         match self {
-            Value::Scalar(_, s) => scalar_field(s),
-            Value::Container(_) => FieldOf::Nothing,
+            Value::Scalar(_, Scalar::Opaque(t, _)) => Some(t),
+            _ => None,
         }
     }
 }

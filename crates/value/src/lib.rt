@@ -8,7 +8,7 @@ use columns::ColumnType;
 use layout::Kind;
 
 // A container: its header's first byte, its size, its count and its kind.
-#[derive(Clone, Copy)]
+#[derive(Clone, Copy, Debug, PartialEq, Eq)]
 pub struct View {
     pub start: u32,
     pub size: u32,
@@ -17,14 +17,15 @@ pub struct View {
 }
 
 // Bytes of the document.
-#[derive(Clone, Copy)]
+#[derive(Clone, Copy, Debug, PartialEq, Eq)]
 pub struct Span {
     pub start: u32,
     pub len: u32,
 }
 
-// A number: signed, unsigned, a double, or the bits of a double that is no number.
-#[derive(Clone, Copy)]
+// A number: signed, unsigned, a double, or the bits of a double that is no number. It has no `==`, nor what holds it: that of f64 takes 0.0 and -0.0
+// for one, and their bits differ.
+#[derive(Clone, Copy, Debug)]
 pub enum Number {
     Int(i64),
     Uint(u64),
@@ -32,7 +33,7 @@ pub enum Number {
     Nan(u64),
 }
 
-#[derive(Clone, Copy)]
+#[derive(Clone, Copy, Debug)]
 pub enum Scalar {
     Null,
     Boolean(bool),
@@ -42,22 +43,8 @@ pub enum Scalar {
 }
 
 // A scalar with its type, or a container.
-#[derive(Clone, Copy)]
+#[derive(Clone, Copy, Debug)]
 pub enum Value {
     Scalar(JsonbType, Scalar),
     Container(View),
-}
-
-// The count of a container, nothing for a scalar.
-#[derive(Clone, Copy)]
-pub enum CountOf {
-    Count(u32),
-    Nothing,
-}
-
-// The column type of an opaque value, nothing for others.
-#[derive(Clone, Copy)]
-pub enum FieldOf {
-    Known(ColumnType),
-    Nothing,
 }
