@@ -16,58 +16,10 @@ use Rattle.value.specs.declared.Span.{Span}
 use Rattle.value.specs.declared.Value.{Value}
 use Rattle.events.specs.declared.Event.{Event}
 use Rattle.events.specs.declared.Spot.{Spot}
-use Rattle.events.specs.declared.Walked.TheVariants.{Done, Stopped}
+use Rattle.events.specs.Walked.{Done, Stopped}
 use Rattle.events.specs.Events.{span, kind_code, code_of, bytes_of, bytes_from, part_of, extra_of, event_of, numbers, wide}
 use Rattle.events.specs.Listing as listing
 use Rattle.events.specs.Lay.{Laid, laid, put, room, lay}
-
--- a container's code
-module _ (k : Kind) where
-  pub large-object : k.object ≡ true → k.large ≡ true → 1 ≡ kind_code k
-  unfolding kind_code
-  large-object o l = yes _ o (yes _ l refl)
-
-  pub small-object : k.object ≡ true → k.large ≡ false → 0 ≡ kind_code k
-  unfolding kind_code
-  small-object o l = yes _ o (no _ l refl)
-
-  pub large-array : k.object ≡ false → k.large ≡ true → 3 ≡ kind_code k
-  unfolding kind_code
-  large-array o l = no _ o (yes _ l refl)
-
-  pub small-array : k.object ≡ false → k.large ≡ false → 2 ≡ kind_code k
-  unfolding kind_code
-  small-array o l = no _ o (no _ l refl)
-
--- the bytes of a type; n is how many as the callee gives it
-module _ (t : JsonbType) (from : ℕ) where
-  pub bytes-none : from ≡ 0 → span 0 0 ≡ bytes_from t from
-  unfolding bytes_from
-  bytes-none e = yes _ (eq-eqb from 0 e) refl
-
-  pub bytes-some : {n : ℕ} → (from ≡ 0 → ⊥) → n ≡ bytes_of t → span from n ≡ bytes_from t from
-  unfolding bytes_from
-  bytes-some e ne = no _ (ne_eqb from 0 e) (ap (span from) ne)
-
--- the event of a value; its code, part and extra number as callees give them
-module _ (s : Spot) (x : Value) where
-  abbrev event : ℕ → Span → ℕ → Event
-  event c p e =
-      record { code = c; depth = s.depth; position = s.position; key = s.key; part = p; extra = e; parent = s.parent }
-
-  pub event-is : {c e : ℕ} {p : Span} → c ≡ code_of x → p ≡ part_of x s.from → e ≡ extra_of x → event c p e ≡ event_of s x
-  event-is {c} {e} {p} ce pe ee =
-      ap (λ (n : ℕ). event n p e) ce ∙ ap (λ (q : Span). event (code_of x) q e) pe ∙ ap (λ (n : ℕ). event (code_of x) (part_of x s.from) n) ee
-
--- the room of a list
-module _ (out : List ℕ) where
-  pub room-capped : 4294967295 < length out / wide → 4294967295 ≡ room out
-  unfolding room
-  room-capped h = yes _ (lt-ltb 4294967295 (length out / wide) h) refl
-
-  pub room-all : length out / wide ≤ 4294967295 → length out / wide ≡ room out
-  unfolding room
-  room-all h = no _ (le-ltb 4294967295 (length out / wide) h) refl
 
 -- numbers stored one after the other, at i + k and up, as code stores them
 abbrev stores : List ℕ → ℕ → ℕ → List ℕ → List ℕ

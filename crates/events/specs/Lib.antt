@@ -1,4 +1,5 @@
 pub mod Events
 pub mod Text
 pub mod Listing
+pub mod Walked
 pub mod Lay

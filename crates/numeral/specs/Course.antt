@@ -1,10 +1,8 @@
 -- What private functions do on the way; no public promise rests on it.
 -- Assumes nothing.
-use Rattle.std.specs.Prelude.{◌≡◌, ℕ, ◌+◌, ◌-◌, ◌*◌, ◌≤◌, ◌<◌, Bool, false, cond, List, [], ◌∷◌, map, eqb, length, get_or, take, drop}
+use Rattle.std.specs.Prelude.{◌≡◌, ℕ, ◌+◌, ◌-◌, ◌*◌, ◌≤◌, ◌<◌, Bool, false, cond, List, [], ◌∷◌, map, eqb, length, get_or, take, drop, Option, Some, None}
 use Rattle.groups.specs.Numbers.{number, both}
 use Rattle.numeral.specs.Read.{run, digit_of}
-use Rattle.numeral.specs.declared.reader.Fraction.{Fraction}
-use Rattle.numeral.specs.declared.reader.Fraction.TheVariants.{Places, Other}
 
 -- the text begins "00"
 unfoldable pub zero_zero : List ℕ → Bool
@@ -12,14 +10,14 @@ zero_zero [] = false
 zero_zero (x ∷ []) = false
 zero_zero (x ∷ y ∷ xs) = both (eqb x 48) (eqb y 48)
 
--- the fraction after integral digits: no point, or a point and digits to the end, or something else
-unfoldable pub fraction_at : List ℕ → Fraction
-fraction_at [] = Places 0
-fraction_at (x ∷ xs) = cond (both (eqb x 46) (eqb (run xs) (length xs))) (Places (length xs)) Other
+-- the digits of the fraction after integral digits: no point, or a point and digits to the end; nothing where something else stands there
+unfoldable pub fraction_at : List ℕ → Option ℕ
+fraction_at [] = Some 0
+fraction_at (x ∷ xs) = cond (both (eqb x 46) (eqb (run xs) (length xs))) (Some (length xs)) None
 
--- the n characters from a place on are digits
-abbrev pub DigitsFrom : ℕ → ℕ → List ℕ → Type 0
-DigitsFrom from n t = (k : ℕ) → k < n → (48 ≤ get_or t (from + k) 0) × (get_or t (from + k) 0 ≤ 57)
+-- all characters are digits
+abbrev pub AllDigits : List ℕ → Type 0
+AllDigits t = (k : ℕ) → k < length t → (48 ≤ get_or t k 0) × (get_or t k 0 ≤ 57)
 
 -- the number that the n digits from a place on write
 unfoldable pub number_at : List ℕ → ℕ → ℕ → ℕ

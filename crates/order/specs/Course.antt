@@ -2,8 +2,7 @@
 -- Assumes nothing.
 use Rattle.std.specs.Prelude.{ℕ, ◌-◌, ◌≡◌, cond, List, ◌++◌, ltb, length, replicate}
 use Rattle.groups.specs.Numbers.{Below}
-use Rattle.order.specs.declared.Compared.{Compared}
-use Rattle.order.specs.declared.Compared.TheVariants.{Less, Equal, Greater}
+use Rattle.std.specs.Ordering.{Ordering, Less, Equal, Greater}
 
 -- nine groups of nine digits
 abbrev pub NineGroups : List ℕ → Type 0
@@ -14,5 +13,5 @@ unfoldable pub placed : ℕ → List ℕ → List ℕ
 placed n gs = replicate (8 - n) 0 ++ (gs ++ replicate n 0)
 
 -- the order of two magnitudes
-unfoldable pub order_n : ℕ → ℕ → Compared
+unfoldable pub order_n : ℕ → ℕ → Ordering
 order_n x y = cond (ltb x y) Less (cond (ltb y x) Greater Equal)

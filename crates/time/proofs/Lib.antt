@@ -1,7 +1,4 @@
-mod Sign
-mod Made
 pub mod Range
 pub mod Number
-mod Stores
-mod Cases
+mod Bytes
 pub mod Types

@@ -1,19 +1,13 @@
 -- What reading and writing answer, and what writing leaves (document 02, W4). Reading: 31 for fewer than eight bytes, then 30 for a field out of range. Writing: 30,
 -- then 25, and then the output is as it was; else its first eight bytes are the packed form. The types by their numbers: those of MySQL's column types.
 -- Assumes nothing.
-use Rattle.std.specs.Prelude.{ℕ, cond, List, [], ◌∷◌, ◌++◌, ltb, eqb, length, drop}
+use Rattle.std.specs.Prelude.{ℕ, cond, List, [], ◌∷◌, ◌++◌, Option, Some, None, ltb, eqb, length, drop}
 use Rattle.refusal.specs.Told.{Told, answer, refusal}
 use Rattle.time.specs.Packed.{number, fields_of, packed}
 use Rattle.time.specs.Ranges.{in_range}
 use Rattle.time.specs.declared.TimeType.{TimeType}
 use Rattle.time.specs.declared.TimeType.TheVariants as type
-use Rattle.time.specs.declared.TimeTypeOf.{TimeTypeOf}
-use Rattle.time.specs.declared.TimeTypeOf.TheVariants.{Known, Other}
 use Rattle.time.specs.declared.MysqlTime.{MysqlTime}
-use Rattle.time.specs.declared.TimeRead.{TimeRead}
-use Rattle.time.specs.declared.TimeRead.TheVariants as read
-use Rattle.time.specs.declared.TimeWritten.{TimeWritten}
-use Rattle.time.specs.declared.TimeWritten.TheVariants as written
 
 -- ---- the types by number
 abbrev pub code_of : TimeType → ℕ
@@ -22,22 +16,18 @@ code_of type.Date = 10
 code_of type.Time = 11
 code_of type.Datetime = 12
 
-unfoldable pub type_of : ℕ → TimeTypeOf
+unfoldable pub type_of : ℕ → Option TimeType
 type_of n =
-    cond (eqb n 7) (Known type.Timestamp)
-    (cond (eqb n 10) (Known type.Date)
-    (cond (eqb n 11) (Known type.Time)
-    (cond (eqb n 12) (Known type.Datetime) Other)))
+    cond (eqb n 7) (Some type.Timestamp)
+    (cond (eqb n 10) (Some type.Date)
+    (cond (eqb n 11) (Some type.Time)
+    (cond (eqb n 12) (Some type.Datetime) None)))
 
 -- ---- a date or a time as nine numbers: its fields, 1 where it is negative and else 0, its type
 abbrev pub numbers : MysqlTime → List ℕ
 numbers t = t.year ∷ t.month ∷ t.day ∷ t.hour ∷ t.minute ∷ t.second ∷ t.second_part ∷ cond t.neg 1 0 ∷ code_of t.time_type ∷ []
 
 -- ---- reading
-abbrev pub read_says : TimeRead → Told
-read_says (read.Time t) = answer (numbers t)
-read_says (read.Refused n) = refusal n
-
 unfoldable pub ranged : MysqlTime → Told
 ranged t = cond (in_range t) (answer (numbers t)) (refusal 30)
 
@@ -45,9 +35,8 @@ unfoldable pub read_told : TimeType → List ℕ → Told
 read_told k bs = cond (ltb (length bs) 8) (refusal 31) (ranged (fields_of k (number bs)))
 
 -- ---- writing: how many bytes, and what is left of the output
-abbrev pub written_says : TimeWritten → Told
-written_says written.Written = answer (8 ∷ [])
-written_says (written.Refused n) = refusal n
+abbrev pub written : Unit {0} → List ℕ
+written _ = 8 ∷ []
 
 unfoldable pub write_told : MysqlTime → List ℕ → Told
 write_told t out = cond (in_range t) (cond (ltb (length out) 8) (refusal 25) (answer (8 ∷ []))) (refusal 30)

@@ -5,26 +5,22 @@ mod fields;
 mod ranges;
 
 ghost use Rattle.std.specs.Prelude.{◌≡◌};
-ghost use Rattle.time.specs.Answers.{code_of, type_of, read_says, read_told, written_says, write_told, write_leaves};
+ghost use Rattle.refusal.specs.Told.{told_by};
+ghost use Rattle.time.specs.Answers.{code_of, type_of, numbers, written, read_told, write_told, write_leaves};
 
-// The four types, as columns have them.
-#[derive(Clone, Copy)]
+use refusal::Refusal;
+
+// The four types, with the numbers that columns have for them.
+#[derive(Clone, Copy, Debug, PartialEq, Eq, Hash)]
 pub enum TimeType {
-    Timestamp,
-    Date,
-    Time,
-    Datetime,
-}
-
-// The type of a number, where it is one of the four.
-#[derive(Clone, Copy)]
-pub enum TimeTypeOf {
-    Known(TimeType),
-    Other,
+    Timestamp = 7,
+    Date = 10,
+    Time = 11,
+    Datetime = 12,
 }
 
 // A date, a time, or both. The packed form has no time zone.
-#[derive(Clone, Copy)]
+#[derive(Clone, Copy, Debug, PartialEq, Eq, Hash)]
 pub struct MysqlTime {
     pub year: u32,
     pub month: u32,
@@ -38,74 +34,59 @@ pub struct MysqlTime {
     pub time_type: TimeType,
 }
 
-// What was read, or a refusal.
-#[derive(Clone, Copy)]
-pub enum TimeRead {
-    Time(MysqlTime),
-    Refused(u8),
-}
-
-// Eight bytes were written, or none, with a refusal.
-#[derive(Clone, Copy)]
-pub enum TimeWritten {
-    Written,
-    Refused(u8),
-}
-
 impl TimeType {
     // The number of the column type.
     pub fn code(self) -> u8
         ensures { result ≡ code_of self }
     {
-        match self {
-            TimeType::Timestamp => 7,
-            TimeType::Date => 10,
-            TimeType::Time => 11,
-            TimeType::Datetime => 12,
-        }
+        self as u8
     }
 
-    // The type that a number names.
-    pub fn of(code: u32) -> TimeTypeOf
+    // The type that a number names. No `TryFrom`: a number of none of the four is nothing, and no refusal.
+    #[tactic(auto, unfolding(crate::specs::Answers::type_of))]
+    pub fn of(code: u32) -> Option<TimeType>
         ensures { result ≡ type_of code }
     {
         match code {
-            7 => TimeTypeOf::Known(TimeType::Timestamp),
-            10 => TimeTypeOf::Known(TimeType::Date),
-            11 => TimeTypeOf::Known(TimeType::Time),
-            12 => TimeTypeOf::Known(TimeType::Datetime),
-            _ => TimeTypeOf::Other,
+            7 => Some(TimeType::Timestamp),
+            10 => Some(TimeType::Date),
+            11 => Some(TimeType::Time),
+            12 => Some(TimeType::Datetime),
+            _ => None,
         }
     }
 }
 
 impl MysqlTime {
     // The value of this type in the first eight bytes.
-    pub fn read_packed(bytes: &[u8], kind: TimeType) -> TimeRead
-        ensures { read_says result ≡ read_told kind bytes.now }
+    #[tactic(auto, unfolding(crate::specs::Answers::read_told, crate::specs::Answers::ranged, crate::specs::Packed::number))]
+    pub fn read_packed(bytes: &[u8], kind: TimeType) -> Result<MysqlTime, Refusal>
+        ensures { told_by numbers result ≡ read_told kind bytes.now }
     {
         if bytes.len() < 8 {
-            return TimeRead::Refused(refusal::TIME_SHORT);
+            return Err(Refusal::TimeShort);
         }
-        let t = fields::fields_of(kind, raw::u64_at(bytes, 0, 8));
-        if ranges::in_range(t) {
-            return TimeRead::Time(t);
+        let t = MysqlTime::of_number(kind, raw::whole::<8>(bytes, 0).cast_signed());
+        if t.in_range() {
+            Ok(t)
+        } else {
+            Err(Refusal::TimeField)
         }
-        TimeRead::Refused(refusal::TIME_FIELD)
     }
 
     // Writes the packed form to the first eight bytes of the output. A refusal changes nothing.
-    pub fn write_packed(self, out: &mut [u8]) -> TimeWritten
-        ensures result_value { written_says result ≡ write_told self out.old }
+    #[tactic(auto, unfolding(crate::specs::Answers::write_told, crate::specs::Answers::write_leaves))]
+    pub fn write_packed(self, out: &mut [u8]) -> Result<(), Refusal>
+        ensures result_value { told_by written result ≡ write_told self out.old }
         ensures out_after { out.new ≡ write_leaves self out.old }
     {
-        if !ranges::in_range(self) {
-            return TimeWritten::Refused(refusal::TIME_FIELD);
+        if !self.in_range() {
+            return Err(Refusal::TimeField);
         }
         if out.len() < 8 {
-            return TimeWritten::Refused(refusal::ROOM);
+            return Err(Refusal::Room);
         }
-        fields::put_packed(out, self);
-        TimeWritten::Written
+        out[..8].copy_from_slice(&self.packed());
+        Ok(())
     }
 }

@@ -1,127 +1,80 @@
 // Which fields a date or a time may have.
 ghost use Rattle.std.specs.Prelude.{◌≡◌};
-ghost use Rattle.time.specs.Ranges.{greatest as greatest_of, within as is_within, is_zero, sign_allowed, in_range};
+ghost use Rattle.time.specs.Ranges.{greatest as greatest_of, within, sign_allowed, in_range};
 
-use super::fields::is_time;
 use super::{MysqlTime, TimeType};
+
+// No field is above 0.
+pub(crate) const NOUGHT: MysqlTime = MysqlTime {
+    year: 0,
+    month: 0,
+    day: 0,
+    hour: 0,
+    minute: 0,
+    second: 0,
+    second_part: 0,
+    neg: false,
+    time_type: TimeType::Time,
+};
 
 // The greatest value of a type.
 fn greatest(kind: TimeType) -> MysqlTime
     ensures { result ≡ greatest_of kind }
 {
+    let date = MysqlTime {
+        year: 9999,
+        month: 12,
+        day: 31,
+        time_type: kind,
+        ..NOUGHT
+    };
     match kind {
-        TimeType::Timestamp => MysqlTime {
-            year: 9999,
-            month: 12,
-            day: 31,
-            hour: 23,
-            minute: 59,
-            second: 59,
-            second_part: 999999,
-            neg: false,
-            time_type: TimeType::Timestamp,
-        },
-        TimeType::Date => MysqlTime {
-            year: 9999,
-            month: 12,
-            day: 31,
-            hour: 0,
-            minute: 0,
-            second: 0,
-            second_part: 0,
-            neg: false,
-            time_type: TimeType::Date,
-        },
+        TimeType::Date => date,
         TimeType::Time => MysqlTime {
-            year: 0,
-            month: 0,
-            day: 0,
             hour: 838,
             minute: 59,
             second: 59,
             second_part: 999999,
-            neg: false,
-            time_type: TimeType::Time,
+            ..NOUGHT
         },
-        TimeType::Datetime => MysqlTime {
-            year: 9999,
-            month: 12,
-            day: 31,
+        TimeType::Timestamp | TimeType::Datetime => MysqlTime {
             hour: 23,
             minute: 59,
             second: 59,
             second_part: 999999,
-            neg: false,
-            time_type: TimeType::Datetime,
+            ..date
         },
     }
 }
 
-// Whether no field is above that of another.
-fn within(t: MysqlTime, most: MysqlTime) -> bool
-    ensures { result ≡ is_within t most }
-{
-    if most.year < t.year {
-        return false;
+impl MysqlTime {
+    // Whether no field is above that of another.
+    #[tactic(auto, unfolding(crate::specs::Ranges::within))]
+    fn within(self, most: MysqlTime) -> bool
+        ensures { result ≡ within self most }
+    {
+        self.year <= most.year
+            && self.month <= most.month
+            && self.day <= most.day
+            && self.hour <= most.hour
+            && self.minute <= most.minute
+            && self.second <= most.second
+            && self.second_part <= most.second_part
     }
-    if most.month < t.month {
-        return false;
-    }
-    if most.day < t.day {
-        return false;
-    }
-    if most.hour < t.hour {
-        return false;
-    }
-    if most.minute < t.minute {
-        return false;
-    }
-    if most.second < t.second {
-        return false;
-    }
-    t.second_part <= most.second_part
-}
 
-// Whether no field is above 0.
-fn is_zero(t: MysqlTime) -> bool
-    ensures { result ≡ is_zero t }
-{
-    within(
-        t,
-        MysqlTime {
-            year: 0,
-            month: 0,
-            day: 0,
-            hour: 0,
-            minute: 0,
-            second: 0,
-            second_part: 0,
-            neg: false,
-            time_type: TimeType::Time,
-        },
-    )
-}
+    // Only a time, and not zero, may be negative.
+    #[tactic(auto, unfolding(crate::specs::Ranges::sign_allowed))]
+    fn sign_allowed(self) -> bool
+        ensures { result ≡ sign_allowed self }
+    {
+        !self.neg || (self.time_type.is_time() && !self.within(NOUGHT))
+    }
 
-// Only a time, and not zero, may be negative.
-fn sign_allowed(t: MysqlTime) -> bool
-    ensures { result ≡ sign_allowed t }
-{
-    if !t.neg {
-        return true;
+    // Whether the fields and the sign are those of a value.
+    #[tactic(auto, unfolding(crate::specs::Ranges::in_range))]
+    pub(crate) fn in_range(self) -> bool
+        ensures { result ≡ in_range self }
+    {
+        self.within(greatest(self.time_type)) && self.sign_allowed()
     }
-    let kind = t.time_type;
-    if !is_time(kind) {
-        return false;
-    }
-    !is_zero(t)
-}
-
-pub(crate) fn in_range(t: MysqlTime) -> bool
-    ensures { result ≡ in_range t }
-{
-    let kind = t.time_type;
-    if !within(t, greatest(kind)) {
-        return false;
-    }
-    sign_allowed(t)
 }

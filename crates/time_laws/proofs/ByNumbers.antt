@@ -1,14 +1,7 @@
 -- Each line by a value or a number of its own, and a line of the round trip.
 -- Assumes nothing.
-use mathlib.Core.Path.{◌≡◌, refl, sym, ap, subst, ◌∙◌}
-use mathlib.Core.Bool.{Bool, true, false, cond}
-use mathlib.Core.List.{List, [], ◌∷◌, ◌++◌, append-nil}
-use Prim.Native.Nat.{ℕ, zero, suc, ◌+◌, ◌-◌, ◌≤◌, ◌<◌}
-use native.Mathlib.Omega.{arith}
-use lib.IntN.{pos, negsuc, neg_ℤ}
-use lib.ListN.{length, take}
-use mir.Syntax.{w64}
-use mir.Val.{of_z}
+use Rattle.std.proofs.Common.{◌≡◌, refl, sym, ap, subst, ◌∙◌, Bool, true, false, List, [], ◌∷◌, ◌++◌, ℕ, zero, suc, ◌+◌, ◌-◌, ◌≤◌, ◌<◌, length, take, pos, negsuc, neg_ℤ, w64, of_z, arith}
+use mathlib.Core.List.{append-nil}
 use Rattle.refusal.specs.Told.{answer, refusal}
 use Rattle.raw.specs.Numbers.{bytes_of}
 use Rattle.raw.proofs.Values.{Bytes}
@@ -66,11 +59,8 @@ module _ (h m s u : ℕ) (rest : List ℕ) (a : h ≤ 838) (b : m ≤ 59) (c : s
       (timed false h m s u)
       (clock h m s u)
       rest
-      (record { no-date = record { no-year = refl; no-month = refl; no-day = refl }; clock = omega arith; sign = λ e. absurd (not-both e) })
+      (record { no-date = record { no-year = refl; no-month = refl; no-day = refl }; clock = omega arith; sign = λ e. cc e })
       refl
-    where
-      not-both : false ≡ true → ⊥
-      not-both e = subst (λ (b : Bool). cond b ⊥ (Unit {0})) e tt
 
   below-read :
       0 < h + m + s + u → read_told type.Time (bytes_of 8 (18446744073709551616 - clock h m s u) ++ rest) ≡ answer (0 ∷ 0 ∷ 0 ∷ h ∷ m ∷ s ∷ u ∷ 1 ∷ 11 ∷ [])
@@ -120,15 +110,12 @@ module _ (y mo d h m s u : ℕ) (rest : List ℕ) (a : y ≤ 9999) (b : mo ≤ 1
       refl
 
 -- ---- the least number: its sign is no date's, and its hours are no time's
-different : true ≡ false → ⊥
-different e = subst (λ (b : Bool). cond b (Unit {0}) ⊥) e tt
-
 least-fields : (k : TimeType) → Accepted k (fields_of k (negsuc 9223372036854775807)) → ⊥
 unfolding fields_of time_of date_of
-least-fields type.Timestamp a = different a.positive
-least-fields type.Date a = different a.positive
+least-fields type.Timestamp a = cc a.positive
+least-fields type.Date a = cc a.positive
 least-fields type.Time a = absurd (omega (arith, a.clock.hours))
-least-fields type.Datetime a = different a.positive
+least-fields type.Datetime a = cc a.positive
 
 least-read : (k : TimeType) (rest : List ℕ) → read_told k (bytes_of 8 9223372036854775808 ++ rest) ≡ refusal 30
 least-read k rest = round_trip.no_other k (negsuc 9223372036854775807) rest (record { sfits = omega arith }) (least-fields k)
@@ -149,10 +136,10 @@ module _ (t : MysqlTime) (out : List ℕ) where
   refuses k p n = round_trip.no_value t out (λ (a : Accepted t.time_type t). n (subst (λ (x : TimeType). Accepted x t) p a))
 
   no-sign-by : (k : TimeType) → (k ≡ type.Time → ⊥) → t.neg ≡ true → Accepted k t → ⊥
-  no-sign-by type.Timestamp n e a = different (sym e ∙ a.positive)
-  no-sign-by type.Date n e a = different (sym e ∙ a.positive)
+  no-sign-by type.Timestamp n e a = cc a.positive
+  no-sign-by type.Date n e a = cc a.positive
   no-sign-by type.Time n e a = n refl
-  no-sign-by type.Datetime n e a = different (sym e ∙ a.positive)
+  no-sign-by type.Datetime n e a = cc a.positive
 
   no-minus-zero : t.time_type ≡ type.Time → t.neg ≡ true → t.hour + t.minute + t.second + t.second_part ≡ 0
       → (write_told t out ≡ refusal 30) × (write_leaves t out ≡ out)

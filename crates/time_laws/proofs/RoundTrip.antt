@@ -1,18 +1,10 @@
 -- Reading and writing undo each other, since the fields of a value's number are the value, the number of a number's fields is the number, and eight bytes and
 -- their number give each other back.
 -- Assumes nothing.
-use mathlib.Core.Path.{◌≡◌, refl, sym, ap, subst, ◌∙◌}
-use mathlib.Core.Bool.{Bool, true, false, cond}
-use mathlib.Core.List.{List, [], ◌∷◌, ◌++◌}
-use Prim.Native.Nat.{ℕ, zero, suc, ◌^◌, ◌≤◌, ◌<◌}
-use native.Mathlib.Omega.{arith}
-use lib.IntN.{ℤ, pos, neg_ℤ}
-use lib.Dec.{ltb}
-use lib.ListN.{length, take, drop, length-append}
+use Rattle.std.proofs.Common.{◌≡◌, sym, ap, subst, ◌∙◌, Bool, true, false, cond, List, [], ◌∷◌, ◌++◌, ℕ, zero, suc, ◌^◌, ◌≤◌, ◌<◌, length, take, drop, length-append, ℤ, pos, neg_ℤ, w64, SFits, to_z, of_z, arith}
+use Rattle.std.proofs.lemmas.Bool.{false_from_ne_true}
+use Rattle.std.proofs.lemmas.Bool.Decides.{nat_tests}
 use lib.Seq.{take-append_seam, length-take-le}
-use borrow.Author.Tests.{ltb-false, le-ltb}
-use mir.Syntax.{w64}
-use mir.Val.{SFits, to_z, of_z}
 use mir.Facts.{to_z-of_z, of_z-to_z, Fits-of_z}
 use Rattle.refusal.specs.Told.{Told, answer, refusal}
 use Rattle.raw.specs.Numbers.{value, bytes_of}
@@ -23,7 +15,7 @@ use Rattle.time.specs.declared.MysqlTime.{MysqlTime}
 use Rattle.time.specs.Packed.{number, fields_of, magnitude_of, number_of, packed}
 use Rattle.time.specs.Ranges.{in_range}
 use Rattle.time.specs.Answers.{numbers, ranged, read_told, write_told, write_leaves}
-use Rattle.time.proofs.Number.{magnitude-below}
+use Rattle.time.proofs.Number.{magnitude_below}
 use Rattle.time_laws.specs.Accepted.{Accepted}
 use Rattle.time_laws.specs.RoundTrip.{RoundTrip}
 use Rattle.time_laws.proofs.Ranges.{accepts, in-range}
@@ -58,13 +50,7 @@ bytes-of-number bs p h =
 
 -- ---- what an answer that is no refusal tells
 pub no-refusal : (n : ℕ) (vs : List ℕ) → refusal (suc n) ≡ answer vs → ⊥
-no-refusal n vs e = let q : suc n ≡ 0 = ap (λ (x : Told). x.number) e in absurd (omega arith)
-
-read_by : (t f : MysqlTime) (short ok : Bool) → cond short (refusal 31) (cond ok (answer (numbers f)) (refusal 30)) ≡ answer (numbers t)
-    → (short ≡ false) × (ok ≡ true) × (t ≡ f)
-read_by t f true ok e = absurd (no-refusal 30 _ e)
-read_by t f false true e = (refl, refl, same-value t f (sym e))
-read_by t f false false e = absurd (no-refusal 29 _ e)
+no-refusal n vs e = omega (arith, ap (λ (x : Told). x.number) e)
 
 record WasRead (k : TimeType) (bs : List ℕ) (t : MysqlTime) : Type 0 where
   long : 8 ≤ length bs
@@ -75,50 +61,44 @@ was_read : (k : TimeType) (bs : List ℕ) (t : MysqlTime) → read_told k bs ≡
 unfolding read_told ranged
 was_read k bs t e =
     let f = fields_of k (number bs) in
-    let p = read_by t f (ltb (length bs) 8) (in_range f) e in
-    record { long = ltb-false (length bs) 8 p.0; ranged-field = ap in_range p.2 ∙ p.1; its-fields = p.2 }
-
-written-by : (ok short : Bool) → cond ok (cond short (refusal 25) (answer (8 ∷ []))) (refusal 30) ≡ answer (8 ∷ []) → (ok ≡ true) × (short ≡ false)
-written-by true true e = absurd (no-refusal 24 _ e)
-written-by true false e = (refl, refl)
-written-by false short e = absurd (no-refusal 29 _ e)
+    let same = same-value f t in
+    let short = no-refusal 30 (numbers t) in
+    let bad = no-refusal 29 (numbers t) in
+    record { long = grind (arith, nat_tests); ranged-field = grind (arith, nat_tests); its-fields = grind (arith, nat_tests) }
 
 was-written : (t : MysqlTime) (out : List ℕ) → write_told t out ≡ answer (8 ∷ []) → (in_range t ≡ true) × (8 ≤ length out)
 unfolding write_told
 was-written t out e =
-    let p = written-by (in_range t) (ltb (length out) 8) e in
-    (p.0, ltb-false (length out) 8 p.1)
+    let no_room = no-refusal 24 (8 ∷ []) in
+    let bad = no-refusal 29 (8 ∷ []) in
+    (grind (arith, nat_tests), grind (arith, nat_tests))
 
 -- ---- the answers of what is in range
 module _ (t : MysqlTime) (out : List ℕ) (r : in_range t ≡ true) (h : 8 ≤ length out) where
   is-written : write_told t out ≡ answer (8 ∷ [])
   unfolding write_told
-  is-written = simp (r, le-ltb (length out) 8 h)
+  is-written = grind (arith, nat_tests)
 
   pub its-bytes : write_leaves t out ≡ packed t ++ drop 8 out
   unfolding write_leaves
-  its-bytes = simp (r, le-ltb (length out) 8 h)
+  its-bytes = grind (arith, nat_tests)
 
 module _ (k : TimeType) (bs : List ℕ) (z : ℤ) (h : 8 ≤ length bs) (e : number bs ≡ z) where
   told : read_told k bs ≡ ranged (fields_of k z)
   unfolding read_told
-  told = ap (λ (b : Bool). cond b (refusal 31) (ranged (fields_of k (number bs)))) (le-ltb (length bs) 8 h) ∙ ap (λ (x : ℤ). ranged (fields_of k x)) e
+  told = grind (arith, nat_tests)
 
 in-range-told : (f : MysqlTime) → in_range f ≡ true → ranged f ≡ answer (numbers f)
 unfolding ranged
-in-range-told f r = ap (λ (b : Bool). cond b (answer (numbers f)) (refusal 30)) r
+in-range-told f r = rw r
 
 out-of-range-told : (f : MysqlTime) → in_range f ≡ false → ranged f ≡ refusal 30
 unfolding ranged
-out-of-range-told f r = ap (λ (b : Bool). cond b (answer (numbers f)) (refusal 30)) r
-
-is_false : (b : Bool) → (b ≡ true → ⊥) → b ≡ false
-is_false true f = absurd (f refl)
-is_false false f = refl
+out-of-range-told f r = rw r
 
 pub number_fits : (t : MysqlTime) → in_range t ≡ true → SFits w64 (number_of t)
 unfolding number_of
-number_fits t r = by (magnitude_of t) t.neg (magnitude-below t r)
+number_fits t r = by (magnitude_of t) t.neg (magnitude_below t r)
   where
     by : (m : ℕ) (below : Bool) → m < 9223372036854775808 → SFits w64 (cond below (neg_ℤ (pos m)) (pos m))
     by zero true h = record { sfits = omega arith }
@@ -163,12 +143,12 @@ module _ (k : TimeType) (z : ℤ) (rest : List ℕ) (f : SFits w64 z) where
   refuses-other n =
       told-of-number
       ∙ out-of-range-told (fields_of k z)
-      (is_false (in_range (fields_of k z))
+      (false_from_ne_true (in_range (fields_of k z))
       (λ (r : in_range (fields_of k z) ≡ true). n (subst (λ (x : TimeType). Accepted x (fields_of k z)) (type-again k z) (accepts (fields_of k z) r))))
 
 module _ (t : MysqlTime) (out : List ℕ) (n : Accepted t.time_type t → ⊥) where
   not-in-range : in_range t ≡ false
-  not-in-range = is_false (in_range t) (λ (r : in_range t ≡ true). n (accepts t r))
+  not-in-range = false_from_ne_true (in_range t) (λ (r : in_range t ≡ true). n (accepts t r))
 
   not_written : (write_told t out ≡ refusal 30) × (write_leaves t out ≡ out)
   unfolding write_told write_leaves

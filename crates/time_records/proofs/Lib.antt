@@ -1,2 +1,1 @@
-mod Nine
 pub mod Again

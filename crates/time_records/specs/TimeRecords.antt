@@ -1,15 +1,11 @@
 -- Dates and times as numbers. One is nine, as `numbers` of the crate time has them: year, month, day, hour, minute, second, microseconds, the sign (0, else 1) and the
 -- number of its type. Fewer are none, and so are nine whose last is the number of none of the four types; what stands behind the nine is not read.
 -- Assumes nothing.
-use Rattle.std.specs.Prelude.{ℕ, cond, List, ltb, length, get_or}
+use Rattle.std.specs.Prelude.{ℕ, cond, List, ltb, length, get_or, Option, Some, None}
 use Rattle.lent.specs.Layout.{flag}
 use Rattle.time.specs.Answers.{type_of}
 use Rattle.time.specs.declared.MysqlTime.{MysqlTime}
 use Rattle.time.specs.declared.TimeType.{TimeType}
-use Rattle.time.specs.declared.TimeTypeOf.{TimeTypeOf}
-use Rattle.time.specs.declared.TimeTypeOf.TheVariants.{Known, Other}
-use Rattle.time_records.specs.declared.TimeRecord.{TimeRecord}
-use Rattle.time_records.specs.declared.TimeRecord.TheVariants as the_record
 
 unfoldable pub time_in : TimeType → List ℕ → MysqlTime
 time_in k xs =
@@ -25,9 +21,9 @@ time_in k xs =
       time_type = k;
     }
 
-abbrev pub record_of : TimeTypeOf → List ℕ → TimeRecord
-record_of (Known k) xs = the_record.Time (time_in k xs)
-record_of Other xs = the_record.Nothing
+abbrev pub record_of : Option TimeType → List ℕ → Option MysqlTime
+record_of (Some k) xs = Some (time_in k xs)
+record_of None xs = None
 
-unfoldable pub time_by : List ℕ → TimeRecord
-time_by xs = cond (ltb (length xs) 9) the_record.Nothing (record_of (type_of (get_or xs 8 0)) xs)
+unfoldable pub time_by : List ℕ → Option MysqlTime
+time_by xs = cond (ltb (length xs) 9) None (record_of (type_of (get_or xs 8 0)) xs)
