@@ -2,7 +2,7 @@
 // no sign on zero; and the sign of a decimal that is read.
 #![tactic(auto)]
 
-ghost use Rattle.std.specs.Prelude.{◌≡◌, ◌+◌, ◌≤◌, true, false, get_or, MatchResult};
+ghost use Rattle.std.specs.Prelude.{◌≡◌, ◌+◌, ◌≤◌, true, false, length, get_or, MatchResult};
 ghost use Rattle.refusal.specs.declared.Refusal.TheVariants as refusal;
 ghost use Rattle.groups.specs.Numbers.{all};
 ghost use Rattle.groups.specs.Course.{capped_at};
@@ -13,11 +13,14 @@ use groups::Parts;
 use refusal::Refusal;
 
 // Whether the first t groups have at most nine digits, and the others are 0.
+#[tactic(auto, unfolding(groups::specs::Course::capped_at))]
 fn capped(groups: &[u32; 9], t: usize) -> bool
-    requires { t ≤ 9 }
     ensures { result ≡ all 9 (λ k. capped_at t k (get_or groups.now k 0)) }
 {
-    groups[..t].iter().all(|g| *g < 1000000000) && groups[t..].iter().all(|g| *g == 0)
+    groups
+        .iter()
+        .enumerate()
+        .all(|(k, g)| if k < t { *g < 1000000000 } else { *g == 0 })
 }
 
 // Only the first group can have fewer digits, and only the last a unit above 1.
@@ -34,6 +37,7 @@ fn all_well(intg: usize, frac: usize, groups: &[u32; 9]) -> bool
     rest == 0 || groups[n + m - 1] % groups::power(rest) == 0
 }
 
+#[tactic(auto, unfolding(groups::specs::Write::digits_ok))]
 fn digits_ok(intg: usize, frac: usize) -> bool
     ensures { result ≡ digits_ok intg frac }
 {
@@ -41,12 +45,14 @@ fn digits_ok(intg: usize, frac: usize) -> bool
 }
 
 // Whether a decimal may have these digits and groups.
+#[tactic(auto, using(groups::proofs::Accept::both_true), unfolding(groups::specs::Write::well_groups, groups::specs::Write::digits_ok))]
 fn well_groups(parts: &Parts) -> bool
     ensures { result ≡ well_groups parts.now.intg parts.now.frac parts.now.groups }
 {
     digits_ok(parts.intg, parts.frac) && all_well(parts.intg, parts.frac, &parts.groups)
 }
 
+#[tactic(auto, unfolding(groups::specs::Sign::is_nought))]
 fn is_zero(groups: &[u32; 9]) -> bool
     ensures { result ≡ is_nought groups.now }
 {
@@ -54,6 +60,7 @@ fn is_zero(groups: &[u32; 9]) -> bool
 }
 
 // The sign of a decimal that is read with these groups, from bytes or text that say negative or not: a zero is positive.
+#[tactic(auto, unfolding(groups::specs::Sign::below_zero))]
 pub fn below_zero(negative: bool, groups: &[u32; 9]) -> bool
     ensures { result ≡ below_zero negative groups.now }
 {
@@ -61,6 +68,7 @@ pub fn below_zero(negative: bool, groups: &[u32; 9]) -> bool
 }
 
 // Whether these parts are those of a decimal.
+#[tactic(auto, unfolding(groups::specs::Write::well_formed, groups::specs::Sign::signed_nought))]
 pub fn well_formed(parts: &Parts) -> bool
     ensures { result
         ≡ well_formed parts.now.negative parts.now.intg parts.now.frac parts.now.groups }
@@ -72,11 +80,17 @@ pub fn well_formed(parts: &Parts) -> bool
     well_groups(parts)
 }
 
+// That an array has nine elements is known of an argument, and not of a field behind a reference: so this says it.
+fn nine(groups: &[u32; 9])
+    ensures { length groups.now ≡ 9 }
+{}
+
 // The parts of a decimal.
 #[derive(Clone, Copy)]
 pub struct Formed<'a> {
     pub parts: &'a Parts,
     ghost well: { well_formed parts.now.negative parts.now.intg parts.now.frac parts.now.groups ≡ true },
+    ghost nine: { length parts.now.groups ≡ 9 },
 }
 
 impl<'a> Formed<'a> {
@@ -87,6 +101,7 @@ impl<'a> Formed<'a> {
         if !well_formed(parts) {
             return Err(Refusal::Record);
         }
+        nine(&parts.groups);
         Ok(Formed { parts })
     }
 }
