@@ -15,7 +15,7 @@ use Rattle.value.specs.declared.Scalar.TheVariants as scalar
 use Rattle.value.specs.declared.Number.{Number}
 use Rattle.value.specs.declared.Number.TheVariants.{Int, Uint, Double, Nan}
 use Rattle.content.specs.Reading.{scalar_of, double_of, number_at, content_at}
-use Rattle.std.specs.Prelude.{Ok, Err}
+use Rattle.std.specs.Prelude.{Err}
 use Rattle.refusal.specs.declared.Refusal.TheVariants as refusal
 
 -- the bits of a double; other numbers have none

@@ -18,4 +18,4 @@ read_said (Err r) = refuses (number_of r)
 abbrev pub said : {A : Type 0} → Result (Option A) Refusal → Said A
 said (Ok (Some x)) = says x
 said (Ok None) = nothing
-said (Err r) = refuses (number_of r)
+said (Err e) = refuses (number_of e)

@@ -35,7 +35,13 @@ pub fn gate_at(doc: &[u8], v: View, asked: bool, i: u32) -> Result<bool, Refusal
 
 // What is read of entry i where there is one, and nothing at or past the count.
 #[tactic(auto, using(crate::proofs::Gates::gated_by))]
-pub fn item_at<T, F: FnOnce() -> Result<T, Refusal>>(doc: &[u8], v: View, asked: bool, i: u32, read: F) -> Result<Option<T>, Refusal>
+pub fn item_at<T, F: FnOnce() -> Result<T, Refusal>>(
+    doc: &[u8],
+    v: View,
+    asked: bool,
+    i: u32,
+    read: F,
+) -> Result<Option<T>, Refusal>
     requires { F.IsAlwaysCallable read }
     ensures { (x : Said T) → ((r : Result T Refusal) → F.post read r → read_said r ≡ x) → said result ≡ gated doc.now v asked i x }
 {

@@ -8,7 +8,7 @@ use refusal::Refusal;
 use value::{Span, Value, View};
 
 // The element, or the member's value, at a position; nothing at or past the count.
-#[tactic(auto, using(crate::proofs::Cases::elem_is))]
+#[tactic(auto, using(gate::proofs::Gates::entry_gated), unfolding(crate::specs::Views::elem_at))]
 pub fn elem_at(doc: &[u8], v: View, pos: u32) -> Result<Option<Value>, Refusal>
     ensures { said result ≡ elem_at doc.now v pos }
 {
@@ -16,7 +16,7 @@ pub fn elem_at(doc: &[u8], v: View, pos: u32) -> Result<Option<Value>, Refusal>
 }
 
 // The key at a position; nothing at or past the count.
-#[tactic(auto, using(crate::proofs::Cases::key_is))]
+#[tactic(auto, using(gate::proofs::Gates::key_gated), unfolding(crate::specs::Views::key_at))]
 pub fn key_at(doc: &[u8], v: View, pos: u32) -> Result<Option<Span>, Refusal>
     ensures { said result ≡ key_at doc.now v pos }
 {

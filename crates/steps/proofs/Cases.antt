@@ -1,7 +1,7 @@
 -- The gate's answer tells whether there is an item, and of a whole container a member is what its key and its value give.
 -- Assumes nothing.
-use mathlib.Core.Path.{◌≡◌, refl, sym, ap, ◌∙◌}
-use mathlib.Core.Bool.{Bool, true, false, cond, not}
+use mathlib.Core.Path.{◌≡◌, refl}
+use mathlib.Core.Bool.{Bool, true, false, cond}
 use mathlib.Core.List.{List}
 use Prim.Native.Nat.{ℕ, ◌<◌}
 use lib.ListN.{length}
@@ -10,11 +10,11 @@ use Rattle.std.specs.Prelude.{Result, Ok, Err}
 use Rattle.refusal.specs.declared.Refusal.{Refusal}
 use Rattle.refusal.specs.declared.Refusal.TheVariants as refusal
 use Rattle.value.specs.declared.View.{View}
-use Rattle.entry.specs.Entries.{entry_at, entry_read, key_entry_at, key_read}
+use Rattle.entry.specs.Entries.{entry_read, key_read}
 use Rattle.gate.specs.Said.{read_said}
 use Rattle.gate.specs.Before.{matches, gated, gate_of}
-use Rattle.gate.proofs.Gates.{gated_same, entry_gated, key_gated, open-whole, whole-entry, whole-key}
-use Rattle.steps.specs.Steps.{is_open, member_of, element_item, key_item, member_item}
+use Rattle.gate.proofs.Gates.{gated_same, open-whole, whole-entry, whole-key}
+use Rattle.steps.specs.Steps.{is_open, member_of, member_item}
 
 -- whether an answer of the gate is open
 abbrev pub opened : Result Bool Refusal → Bool
@@ -38,16 +38,8 @@ module _ (d : List ℕ) (v : View) (asked : Bool) (i : ℕ) where
   pub below : gate_of d v asked i ≡ Ok true → i < v.count
   below e = (open-whole d v asked i e).below
 
--- an item is what the gate makes of what is read of any view
-module _ (d : List ℕ) (v : View) (i : ℕ) where
-  pub element_is : element_item d v i ≡ gated d v (not v.kind.object) i (read_said (entry_read d v i))
-  unfolding element_item
-  element_is = entry_gated d v (not v.kind.object) i
-
-  pub key_is : key_item d v i ≡ gated d v v.kind.object i (read_said (key_read d v i))
-  unfolding key_item
-  key_is = key_gated d v v.kind.object i
-
-  pub member_is : member_item d v i ≡ gated d v v.kind.object i (member_of (read_said (key_read d v i)) (read_said (entry_read d v i)))
-  unfolding member_item
-  member_is = gated_same d v v.kind.object i _ _ (λ w. rw (whole-entry d v i w, whole-key d v i w) refl)
+-- a member is what the gate makes of what is read of any view
+pub member_is : (d : List ℕ) (v : View) (i : ℕ) →
+    member_item d v i ≡ gated d v v.kind.object i (member_of (read_said (key_read d v i)) (read_said (entry_read d v i)))
+unfolding member_item
+member_is d v i = gated_same d v v.kind.object i _ _ (λ w. rw (whole-entry d v i w, whole-key d v i w) refl)

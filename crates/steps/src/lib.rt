@@ -76,7 +76,7 @@ fn step_at<T, F: FnOnce() -> Result<T, Refusal>>(
 
 impl Elements {
     // The element at this place, and the place that follows.
-    #[tactic(auto, using(crate::proofs::Cases::element_is))]
+    #[tactic(auto, using(gate::proofs::Gates::entry_gated), unfolding(crate::specs::Steps::element_item))]
     pub fn next(self, doc: &[u8]) -> Step<Value, Elements>
         ensures item_value { said result.item ≡ element_item doc.now self.view self.at }
         ensures view_value { (result.next.view ≡ self.view) × (result.next.at ≡ after (is_open doc.now self.view (not self.view.kind.object) self.at) self.at) }
@@ -98,7 +98,7 @@ impl Elements {
 
 impl Keys {
     // The key at this place, and the place that follows.
-    #[tactic(auto, using(crate::proofs::Cases::key_is))]
+    #[tactic(auto, using(gate::proofs::Gates::key_gated), unfolding(crate::specs::Steps::key_item))]
     pub fn next(self, doc: &[u8]) -> Step<Span, Keys>
         ensures item_value { said result.item ≡ key_item doc.now self.view self.at }
         ensures view_value { (result.next.view ≡ self.view) × (result.next.at ≡ after (is_open doc.now self.view self.view.kind.object self.at) self.at) }

@@ -23,7 +23,8 @@ pub struct Span {
     pub len: u32,
 }
 
-// A number: signed, unsigned, a double, or the bits of a double that is no number.
+// A number: signed, unsigned, a double, or the bits of a double that is no number. It has no `==`, nor what holds it: that of f64 takes 0.0 and -0.0
+// for one, and their bits differ.
 #[derive(Clone, Copy, Debug)]
 pub enum Number {
     Int(i64),
