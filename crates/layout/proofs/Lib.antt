@@ -1,3 +1,2 @@
 pub mod Cond
-mod Places
 pub mod Inside

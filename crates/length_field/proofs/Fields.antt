@@ -9,7 +9,7 @@ use native.Mathlib.Omega.{arith}
 use lib.ListN.{length, get_or, drop, drop_of_length-le}
 use lib.Seq.{slice, drop-cons}
 use borrow.Author.Tests.{lt-ltb, le-ltb}
-use Rattle.std.specs.Prelude.{Err}
+use Rattle.std.specs.Prelude.{Ok, Err}
 use Rattle.refusal.specs.declared.Refusal.TheVariants as refusal
 use Rattle.length_field.specs.Length.{Groups, got, short, long, above, groups, field_of, length_at}
 use Rattle.raw.proofs.Parts.{slice-length, slice_at}
@@ -87,6 +87,15 @@ module _ (doc : List ℕ) (at end low unit k : ℕ) (p : Passed doc at end low u
         p
         ∙ ap (onto low unit k) (rw byte at (more 5 k (slice at end doc) h there (rw byte t)))
         ∙ onto-above low unit k (b - 128) (groups (5 - (k + 1)) (drop (k + 1) (slice at end doc)))
+
+-- a field of one byte
+pub one : (doc : List ℕ) (at end : ℕ) → 0 < min end (length doc) - at → get_or doc at 0 < 128 → length_at doc at end ≡ Ok (record { length = get_or doc at 0; next = at + 1 })
+unfolding length_at
+one doc at end l t =
+    let z : at + 0 ≡ at = omega arith in
+    let b = rw z at (slice_at doc at end 0 l) in
+    ap (field_of at) (rw b at (last 5 0 (slice at end doc) (omega arith) (rw slice-length l) (rw b t)))
+    ∙ simp (lt-ltb (get_or doc at 0) 4294967296 (omega arith))
 
 -- ---- bounds
 pub bound : (low unit k x : ℕ) → unit ≡ 128 ^ k → k < 5 → low < unit → x < 128 → (low + unit * x < unit * 128) × (unit * 128 ≤ 34359738368)

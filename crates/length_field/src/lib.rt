@@ -1,7 +1,7 @@
 // The length field of strings and opaque values, at a place of a document and never past an end.
 #![tactic(auto)]
 
-ghost use Rattle.std.specs.Prelude.{◌≡◌};
+ghost use Rattle.std.specs.Prelude.{◌≡◌, ◌<◌, ◌≤◌, length, IfOk};
 ghost use Rattle.length_field.specs.Length.{length_at};
 
 use refusal::Refusal;
@@ -14,8 +14,9 @@ pub struct Length {
 }
 
 // Group by group: `low` is what the k groups passed hold, and `unit` what the next one counts.
-pub fn length_at(doc: &[u8], at: usize, end: usize) -> Result<Length, Refusal>
-    ensures { result ≡ length_at doc.now at end }
+fn grouped(doc: &[u8], at: usize, end: usize) -> Result<Length, Refusal>
+    ensures value { result ≡ length_at doc.now at end }
+    ensures within { IfOk result (λ f. (at < f.next) × (f.next ≤ end) × (f.next ≤ length doc.now)) }
 {
     let left = raw::left(doc, at, end);
     let mut low: u64 = 0;
@@ -36,4 +37,19 @@ pub fn length_at(doc: &[u8], at: usize, end: usize) -> Result<Length, Refusal>
         unit *= 128;
     }
     Err(Refusal::Length)
+}
+
+// Most fields have one byte, which takes nine instructions more in the loop.
+#[tactic(auto, using(crate::proofs::Fields::one))]
+pub fn length_at(doc: &[u8], at: usize, end: usize) -> Result<Length, Refusal>
+    ensures value { result ≡ length_at doc.now at end }
+    ensures within { IfOk result (λ f. (at < f.next) × (f.next ≤ end) × (f.next ≤ length doc.now)) }
+{
+    if 0 < raw::left(doc, at, end) && doc[at] < 128 {
+        return Ok(Length {
+            length: u32::from(doc[at]),
+            next: at + 1,
+        });
+    }
+    grouped(doc, at, end)
 }
