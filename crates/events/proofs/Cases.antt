@@ -50,10 +50,10 @@ put-number out n e h k b =
     ∙ get_or-append-add front (numbers e) k 0
 
 -- an event as code lays it down, over a part of the list
-pub put-part : (out : List ℕ) (n : ℕ) (e : Event) {ys : List ℕ} → wide * n + wide ≤ length out → ys ≡ numbers e →
+pub put_part : (out : List ℕ) (n : ℕ) (e : Event) {ys : List ℕ} → wide * n + wide ≤ length out → ys ≡ numbers e →
     put_mid (wide * n) (wide * n + wide - wide * n) out ys ≡ put out n e
 unfolding put
-put-part out n e {ys} h q =
+put_part out n e {ys} h q =
     put_mid-paste (wide * n) (wide * n + wide - wide * n) out ys (numbers e) wide q (omega arith) refl
     ∙ sym (sets-eq (numbers e) out (wide * n) h)
 

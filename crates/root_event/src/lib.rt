@@ -1,16 +1,16 @@
 // The root of a document as the first event of a list.
 #![tactic(auto)]
 
-ghost use Rattle.std.specs.Prelude.{◌≡◌};
-ghost use Rattle.events.specs.Walked.{walked};
+ghost use Rattle.std.specs.Prelude.{◌≡◌, MatchResult, ⊤};
+ghost use Rattle.events.specs.Walked.{listed};
 ghost use Rattle.events.specs.Text.{value_text};
-ghost use Rattle.events.specs.Listing.{end, event};
+ghost use Rattle.jsonb.specs.Views.{root_read};
 ghost use Rattle.events.specs.Lay.{lay, laid};
-ghost use Rattle.root_event.specs.Root.{first_byte, root_node};
+ghost use Rattle.root_event.specs.Root.{leads_of, leads_to, first_byte, root_node};
 
-use events::{Event, Spot, Stopped, WIDE};
+use events::{Event, Spot, Stopped};
 use refusal::Refusal;
-use value::{Scalar, Span, Value};
+use value::{Scalar, Span, Value, View};
 
 // Where a value's text breaks: of values, strings alone are text.
 fn text_check(doc: &[u8], x: Value) -> Result<(), usize>
@@ -30,26 +30,21 @@ fn first_byte(doc: &[u8]) -> u32
     if doc.is_empty() { 0 } else { 1 }
 }
 
-// Lays down an event as the n-th: 12 at its place where there is no room.
-#[tactic(auto, unfolding(events::specs::Lay::lay))]
-fn put_event(out: &mut [u32], n: usize, place: usize, e: Event) -> Result<usize, Stopped>
-    ensures { lay (event e place end) out.old n ≡ laid (walked result) out.new }
+// The container that a value is.
+fn leads_of(x: Value) -> Option<View>
+    ensures { result ≡ leads_of x }
 {
-    if events::room_in(out) <= n {
-        return Err(Stopped {
-            refusal: Refusal::Events,
-            place,
-            count: n,
-        });
+    match x {
+        Value::Container(v) => Some(v),
+        Value::Scalar(..) => None,
     }
-    out[WIDE * n..WIDE * n + WIDE].copy_from_slice(&e.numbers());
-    Ok(n + 1)
 }
 
-// Lists the root: what its value is refused with, then 9 where a string breaks, then 12 where there is no room.
-#[tactic(auto, unfolding(events::specs::Lay::lay, crate::specs::Root::root_node, crate::specs::Root::value_node))]
-pub fn list_root(doc: &[u8], out: &mut [u32]) -> Result<usize, Stopped>
-    ensures { lay (root_node doc.now) out.old 0 ≡ laid (walked result) out.new }
+// Lists the root: what its value is refused with, then 9 where a string breaks, then 12 where there is no room. The answer is the container that it is.
+#[tactic(auto, using(events::proofs::Room::room_fits), unfolding(events::specs::Lay::lay, crate::specs::Root::root_node, crate::specs::Root::value_node))]
+pub fn list_root(doc: &[u8], out: &mut [u32]) -> Result<Option<View>, Stopped>
+    ensures listed { lay (root_node doc.now) out.old 0 ≡ laid (listed 0 result) out.new }
+    ensures leads { MatchResult result (λ u. u ≡ leads_to (root_read doc.now)) (λ s. ⊤) }
 {
     let x = jsonb::deserialize(doc).map_err(|refusal| Stopped {
         refusal,
@@ -61,6 +56,13 @@ pub fn list_root(doc: &[u8], out: &mut [u32]) -> Result<usize, Stopped>
         place,
         count: 0,
     })?;
+    if events::room_in(out) == 0 {
+        return Err(Stopped {
+            refusal: Refusal::Events,
+            place: 0,
+            count: 0,
+        });
+    }
     let spot = Spot {
         depth: 0,
         position: 0,
@@ -69,5 +71,6 @@ pub fn list_root(doc: &[u8], out: &mut [u32]) -> Result<usize, Stopped>
         key: Span { start: 0, len: 0 },
         from: first_byte(doc),
     };
-    put_event(out, 0, spot.place, Event::new(spot, x))
+    Event::new(spot, x).put(out, 0);
+    Ok(leads_of(x))
 }
