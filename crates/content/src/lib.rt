@@ -74,7 +74,7 @@ fn number(w: Window<'_>, t: JsonbType, width: usize, x: Number) -> Result<Value,
 
 // A length field and as many bytes: where the bytes are.
 #[tactic(auto, using(crate::proofs::Fields::field_within), unfolding(crate::specs::Reading::part_at))]
-fn part(w: Window<'_>) -> Result<Span, Refusal>
+pub fn part(w: Window<'_>) -> Result<Span, Refusal>
     ensures { result ≡ part_at w.entry.doc.now w.entry.at w.entry.end }
 {
     let Length { length, next } = length_field::length_at(w.doc, w.at, w.end)?;

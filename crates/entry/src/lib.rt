@@ -10,7 +10,7 @@ use refusal::Refusal;
 use value::{Value, View};
 
 // Whether values of a type stand in their entry.
-fn is_inlined(t: JsonbType, large: bool) -> bool
+pub fn is_inlined(t: JsonbType, large: bool) -> bool
     ensures { result ≡ is_inlined t large }
 {
     match t {

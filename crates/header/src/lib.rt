@@ -2,10 +2,11 @@
 // enclosing container.
 #![tactic(auto)]
 
-ghost use Rattle.std.specs.Prelude.{◌≡◌, ◌≤◌, length, MatchResult, Ok, Err};
+ghost use Rattle.std.specs.Prelude.{◌≡◌, ◌+◌, ◌≤◌, length, MatchResult, Ok, Err};
+ghost use Rattle.layout.specs.Layout.{offset_size, offset_at};
 ghost use Rattle.header.specs.Headers.{header_at, place_of, header_read};
 
-use layout::{Kind, offset_at};
+use layout::Kind;
 use refusal::Refusal;
 
 // What a container's header says.
@@ -41,6 +42,18 @@ impl<'a> Window<'a> {
         Ok(Window { doc, at, end })
     }
 
+    // The offset, count or size at the place, which stands whole before the end: one load.
+    #[tactic(auto, using(crate::proofs::Inside::le_whole), unfolding(layout::specs::Layout::offset_size, layout::specs::Layout::offset_at))]
+    pub fn offset(self, k: Kind) -> u32
+        requires { self.at + offset_size k ≤ self.end }
+        ensures { result ≡ offset_at self.entry.doc.now k self.entry.at self.entry.end }
+    {
+        if k.large {
+            return raw::whole::<4>(self.doc, self.at) as u32;
+        }
+        raw::whole::<2>(self.doc, self.at) as u32
+    }
+
     // Count and size, where both and the header fit.
     #[tactic(auto, unfolding(crate::specs::Headers::header_at))]
     pub fn header(self, k: Kind) -> Result<Header, Refusal>
@@ -51,8 +64,13 @@ impl<'a> Window<'a> {
         if left < 2 * w {
             return Err(Refusal::Cut);
         }
-        let count = offset_at(self.doc, k, self.at, self.end);
-        let size = offset_at(self.doc, k, self.at + w, self.end);
+        let count = self.offset(k);
+        let size = Window {
+            doc: self.doc,
+            at: self.at + w,
+            end: self.end,
+        }
+        .offset(k);
         let whole = size as usize;
         if left < whole || whole < k.header_size(count) {
             return Err(Refusal::Size);

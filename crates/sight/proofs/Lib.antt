@@ -1,3 +1,4 @@
-pub mod Cases
-mod Good
+pub mod Numbers
+pub mod Entries
+pub mod Good
 pub mod Laws
