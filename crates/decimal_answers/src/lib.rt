@@ -36,15 +36,16 @@ pub fn size<W: Write>(out: &mut W, asked: &mut Asked<'_>) -> Result<(), Fault> {
     let precision = asked.number()? as usize;
     let scale = asked.number()? as usize;
     asked.end()?;
-    write!(out, "{}", Answer(decimal::decimal_bin_size(precision, scale)))?;
+    write!(
+        out,
+        "{}",
+        Answer(decimal::decimal_bin_size(precision, scale))
+    )?;
     Ok(())
 }
 
 // The order of two, or the first refusal.
-fn order(
-    a: Result<Decimal, Refusal>,
-    b: Result<Decimal, Refusal>,
-) -> Result<Ordering, Refusal> {
+fn order(a: Result<Decimal, Refusal>, b: Result<Decimal, Refusal>) -> Result<Ordering, Refusal> {
     a?.compare(b?)
 }
 
@@ -67,6 +68,10 @@ fn root_decimal(doc: &[u8], keep: bool) -> Result<Option<Decimal>, Refusal> {
 pub fn root<W: Write>(out: &mut W, asked: &mut Asked<'_>) -> Result<(), Fault> {
     let keep = asked.flag()?;
     let root = root_decimal(asked.last_bytes()?, keep);
-    write!(out, "{}", Answer(root.map(|d| Or(d.map(DecimalWords), "other"))))?;
+    write!(
+        out,
+        "{}",
+        Answer(root.map(|d| Or(d.map(DecimalWords), "other")))
+    )?;
     Ok(())
 }

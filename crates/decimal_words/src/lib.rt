@@ -42,7 +42,14 @@ impl Display for DecimalWords {
     fn fmt<W: fmt::Write>(&self, f: &mut Formatter<W>) -> fmt::Result {
         let d = self.0;
         let sign = if d.sign { '-' } else { '+' };
-        write!(f, "{} {} {sign} {} {}", d.intg, d.frac, Printed(d), Digits(d))
+        write!(
+            f,
+            "{} {} {sign} {} {}",
+            d.intg,
+            d.frac,
+            Printed(d),
+            Digits(d)
+        )
     }
 }
 

@@ -46,7 +46,11 @@ fn order_of(x: Read, y: Read) -> Result<Ordering, Refusal> {
 fn order<W: Write>(out: &mut W, a: &str, b: &str) -> io::Result<()> {
     let x = Decimal::parse_str_bytes(a.as_bytes());
     let y = Decimal::parse_str_bytes(b.as_bytes());
-    writeln!(out, "{a} and {b}: {}", Answer(order_of(x, y).map(OrderWord)))
+    writeln!(
+        out,
+        "{a} and {b}: {}",
+        Answer(order_of(x, y).map(OrderWord))
+    )
 }
 
 // The order of the values in digit bytes and in a text.

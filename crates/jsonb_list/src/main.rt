@@ -57,11 +57,13 @@ fn write_walk<W: Write>(out: &mut W, doc: &[u8]) -> io::Result<()> {
     let mut numbers = [0u32; 16384];
     match walk::walk(doc, &mut numbers) {
         Ok(count) => write_events(out, &numbers, count),
-        Err(Stopped {
-            refusal,
-            place,
-            count,
-        }) => {
+        Err(
+            Stopped {
+                refusal,
+                place,
+                count,
+            },
+        ) => {
             write_events(out, &numbers, count)?;
             writeln!(out, "refused {} at {place}", refusal.number())
         }
@@ -71,10 +73,7 @@ fn write_walk<W: Write>(out: &mut W, doc: &[u8]) -> io::Result<()> {
 // ---- the input
 
 // The document in the input, nothing where it is longer than the buffer.
-fn read_document<'b, R: Read>(
-    input: &mut R,
-    buf: &'b mut [u8],
-) -> io::Result<Option<&'b [u8]>> {
+fn read_document<'b, R: Read>(input: &mut R, buf: &'b mut [u8]) -> io::Result<Option<&'b [u8]>> {
     let room = buf.len();
     let mut rest = &mut buf[..];
     let n = io::copy(&mut input.take(room as u64), &mut rest)? as usize;

@@ -5,10 +5,9 @@
 ghost use Rattle.std.specs.Prelude.{◌≤◌, length};
 
 use refusal::Refusal;
-use std::fmt;
 use std::fmt::{Display, Formatter};
-use std::io;
 use std::io::{Stdout, Write};
+use std::{fmt, io};
 
 // A room of any length, and how much of it waits to be written. What does not fit is written first; a text that is longer than the room is written as it
 // is. (std's BufWriter takes its room from an allocator, and nothing here is taken from one.)

@@ -33,8 +33,7 @@ fn write_part<W: Write>(out: &mut W, doc: &[u8], s: Span) -> io::Result<()> {
 
 // The bytes of an element that is a string.
 fn element_bytes<W: Write>(out: &mut W, c: Container<'_>, pos: u32) -> io::Result<()> {
-    let Ok(Some(Value::Scalar(_, Scalar::String(part)))) = jsonb::elem_at(c.doc, c.view, pos)
-    else {
+    let Ok(Some(Value::Scalar(_, Scalar::String(part)))) = jsonb::elem_at(c.doc, c.view, pos) else {
         return Ok(());
     };
     write!(out, "bytes of element {pos} of {c}: ")?;
@@ -79,8 +78,9 @@ fn decimal<W: Write>(out: &mut W, doc: &[u8]) -> io::Result<()> {
 
 // An object whose member a is Zoë, and a string that begins among later entries.
 fn byte_examples<W: Write>(out: &mut W) -> io::Result<()> {
-    let object =
-        Container::root(b"\x00\x01\x00\x11\x00\x0B\x00\x01\x00\x0C\x0C\x00\x61\x04\x5A\x6F\xC3\xAB");
+    let object = Container::root(
+        b"\x00\x01\x00\x11\x00\x0B\x00\x01\x00\x0C\x0C\x00\x61\x04\x5A\x6F\xC3\xAB",
+    );
     key_bytes(out, object, 0)?;
     element_bytes(out, object, 0)?;
     let array = Container::root(b"\x02\x02\x00\x0C\x00\x0C\x07\x00\x04\x01\x00\x41\x42");

@@ -30,7 +30,11 @@ fn root_time(doc: &[u8]) -> Result<Option<MysqlTime>, Refusal> {
 
 pub fn root<W: Write>(out: &mut W, asked: &mut Asked<'_>) -> Result<(), Fault> {
     let root = root_time(asked.last_bytes()?);
-    write!(out, "{}", Answer(root.map(|t| Or(t.map(TimeWords), "other"))))?;
+    write!(
+        out,
+        "{}",
+        Answer(root.map(|t| Or(t.map(TimeWords), "other")))
+    )?;
     Ok(())
 }
 
@@ -59,6 +63,11 @@ pub fn record<W: Write>(out: &mut W, asked: &mut Asked<'_>) -> Result<(), Fault>
         time_type,
     };
     let written = Written::by(room, |room| t.write_packed(room).map(|()| 8));
-    write!(out, "{} ; {}", Answer(written.bytes().map(Hex)), kept(written.is_kept()))?;
+    write!(
+        out,
+        "{} ; {}",
+        Answer(written.bytes().map(Hex)),
+        kept(written.is_kept())
+    )?;
     Ok(())
 }

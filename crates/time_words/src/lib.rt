@@ -14,7 +14,11 @@ impl Display for TimeWords {
         let t = self.0;
         let sign = if t.neg { '-' } else { '+' };
         write!(f, "year {} month {} day {} ", t.year, t.month, t.day)?;
-        write!(f, "hour {} minute {} second {} ", t.hour, t.minute, t.second)?;
+        write!(
+            f,
+            "hour {} minute {} second {} ",
+            t.hour, t.minute, t.second
+        )?;
         write!(f, "micro {} {sign}", t.second_part)
     }
 }

@@ -39,11 +39,13 @@ fn write_walked<W: Write>(
 ) -> io::Result<()> {
     match walked {
         Ok(count) => write_events(out, lent, count),
-        Err(Stopped {
-            refusal,
-            place,
-            count,
-        }) => {
+        Err(
+            Stopped {
+                refusal,
+                place,
+                count,
+            },
+        ) => {
             write!(out, "refused {} at {place} after ", refusal.number())?;
             write_events(out, lent, count)
         }
