@@ -1,70 +1,67 @@
-// The words in which programs print decimals and the answers that hold them; `put` as in the crate `output`, `say` at once.
+// The words in which programs print decimals and their order.
 #![tactic(auto)]
 
-use decimal::{Answer, Compared, Counted, Decimal};
-use output::{Output, flush, put, put_front, put_front_hex, put_next, put_number, put_refused};
-use std::io::Stdout;
+use decimal::Decimal;
+use output::{Answer, Ascii, Hex, Written};
+use std::cmp::Ordering;
+use std::fmt;
+use std::fmt::{Display, Formatter};
 
-fn put_printed(out: &mut Output<'_>, at: usize, d: Decimal) -> usize {
-    let mut text = [0u8; 68];
-    match d.print(&mut text) {
-        Counted::Bytes(n) => put_front(out, at, &text, n),
-        Counted::Refused(n) => put_refused(out, at, n),
+// More bytes than any decimal prints or writes.
+const ENOUGH: usize = 68;
+
+// The text that a decimal prints.
+#[derive(Clone, Copy)]
+pub struct Printed(pub Decimal);
+
+impl Display for Printed {
+    fn fmt<W: fmt::Write>(&self, f: &mut Formatter<W>) -> fmt::Result {
+        let d = self.0;
+        let text = Written::by(ENOUGH, |room| d.print(room));
+        write!(f, "{}", Answer(text.bytes().map(Ascii)))
     }
 }
 
-fn put_written(out: &mut Output<'_>, at: usize, d: Decimal) -> usize {
-    let mut room = [0u8; 32];
-    match d.write_bin(&mut room) {
-        Counted::Bytes(n) => put_front_hex(out, at, &room, n),
-        Counted::Refused(n) => put_refused(out, at, n),
+// The digit bytes that it writes.
+#[derive(Clone, Copy)]
+pub struct Digits(pub Decimal);
+
+impl Display for Digits {
+    fn fmt<W: fmt::Write>(&self, f: &mut Formatter<W>) -> fmt::Result {
+        let d = self.0;
+        let bytes = Written::by(ENOUGH, |room| d.write_bin(room));
+        write!(f, "{}", Answer(bytes.bytes().map(Hex)))
     }
 }
 
-fn put_sign(out: &mut Output<'_>, at: usize, sign: bool) -> usize {
-    if sign {
-        return put(out, at, b" - ");
-    }
-    put(out, at, b" + ")
-}
+// Both counts of digits, the sign, the text and the digit bytes.
+#[derive(Clone, Copy)]
+pub struct DecimalWords(pub Decimal);
 
-// Both counts of digits, the sign, what it prints and what it writes.
-fn put_decimal(out: &mut Output<'_>, at: usize, d: Decimal) -> usize {
-    let frac = put_number(out, at, d.intg as u64);
-    let sign = put_next(out, frac, d.frac as u64);
-    let text = put_sign(out, sign, d.sign);
-    let gap = put_printed(out, text, d);
-    let bytes = put(out, gap, b" ");
-    put_written(out, bytes, d)
-}
-
-pub fn put_answer(out: &mut Output<'_>, at: usize, a: Answer) -> usize {
-    if a.refusal == 0 {
-        let d = a.decimal;
-        return put_decimal(out, at, d);
-    }
-    put_refused(out, at, a.refusal)
-}
-
-pub fn put_counted(out: &mut Output<'_>, at: usize, c: Counted) -> usize {
-    match c {
-        Counted::Bytes(n) => put_number(out, at, n as u64),
-        Counted::Refused(n) => put_refused(out, at, n),
+impl Display for DecimalWords {
+    fn fmt<W: fmt::Write>(&self, f: &mut Formatter<W>) -> fmt::Result {
+        let d = self.0;
+        let sign = if d.sign { '-' } else { '+' };
+        write!(
+            f,
+            "{} {} {sign} {} {}",
+            d.intg,
+            d.frac,
+            Printed(d),
+            Digits(d)
+        )
     }
 }
 
-pub fn put_order(out: &mut Output<'_>, at: usize, c: Compared) -> usize {
-    match c {
-        Compared::Less => put(out, at, b"less"),
-        Compared::Equal => put(out, at, b"equal"),
-        Compared::Greater => put(out, at, b"greater"),
-        Compared::Refused(n) => put_refused(out, at, n),
-    }
-}
+#[derive(Clone, Copy)]
+pub struct OrderWord(pub Ordering);
 
-pub fn say_answer(to: Stdout, a: Answer) {
-    let mut room = [0u8; 64];
-    let mut out = Output::new(to, &mut room);
-    let at = put_answer(&mut out, 0, a);
-    flush(&out, at);
+impl Display for OrderWord {
+    fn fmt<W: fmt::Write>(&self, f: &mut Formatter<W>) -> fmt::Result {
+        match self.0 {
+            Ordering::Less => write!(f, "less"),
+            Ordering::Equal => write!(f, "equal"),
+            Ordering::Greater => write!(f, "greater"),
+        }
+    }
 }

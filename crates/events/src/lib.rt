@@ -2,8 +2,8 @@
 #![tactic(auto)]
 
 ghost use Rattle.std.specs.Prelude.{◌≡◌, ◌+◌, ◌*◌, ◌≤◌, length};
-ghost use Rattle.events.specs.Events.{kind_code, code_of, bytes_of, bytes_from, scalar_part, part_of, scalar_extra, extra_of, event_of, numbers};
-ghost use Rattle.events.specs.Lay.{room};
+ghost use Rattle.events.specs.Events.{kind_code, code_of, bytes_of, bytes_from, scalar_part, part_of, scalar_extra, extra_of, event_of, numbers, wide};
+ghost use Rattle.events.specs.Lay.{put, room};
 
 use codes::JsonbType;
 use layout::Kind;
@@ -147,6 +147,15 @@ impl Event {
             self.extra,
             self.parent,
         ]
+    }
+
+    // Lays it into a list as the n-th event.
+    #[tactic(auto, using(crate::proofs::Cases::put_part))]
+    pub fn put(self, out: &mut [u32], n: usize)
+        requires { wide * n + wide ≤ length out.old }
+        ensures { out.new ≡ put out.old n self }
+    {
+        out[WIDE * n..WIDE * n + WIDE].copy_from_slice(&self.numbers());
     }
 }
 

@@ -1,281 +1,180 @@
 // Runs the worked examples of decimals, a line each: the question, and what the library answers.
 #![tactic(auto)]
 
-use decimal::{Answer, Compared, Counted, Decimal};
-use output::{Output, flush, put_front_hex, put_number};
-use std::io::{Print, Stdout};
+use decimal::Decimal;
+use decimal_words::{Digits, OrderWord, Printed};
+use output::{Answer, Hex, Output};
+use refusal::Refusal;
+use std::cmp::Ordering;
+use std::io;
+use std::io::Write;
 
-fn say(to: Stdout, text: &[u8]) {
-    let _ = to.write_all(text);
+type Read = Result<Decimal, Refusal>;
+
+fn kept(keep: bool) -> &'static str {
+    if keep { " kept" } else { "" }
 }
 
-fn say_number(to: Stdout, n: usize) {
-    let mut room = [0u8; 32];
-    let mut out = Output::new(to, &mut room);
-    let at = put_number(&mut out, 0, n as u64);
-    flush(&out, at);
+fn packed<W: Write>(out: &mut W, bytes: &[u8], keep: bool) -> io::Result<()> {
+    let read = Decimal::read_packed(bytes, keep).map(Printed);
+    writeln!(out, "packed {}{}: {}", Hex(bytes), kept(keep), Answer(read))
 }
 
-fn say_refused(to: Stdout, n: u8) {
-    say(to, b"refused ");
-    say_number(to, n as usize);
+fn bin<W: Write>(
+    out: &mut W,
+    bytes: &[u8],
+    precision: usize,
+    scale: usize,
+    keep: bool,
+) -> io::Result<()> {
+    let read = Decimal::read_bin(bytes, precision, scale, keep).map(Printed);
+    write!(out, "({precision},{scale}) {}", Hex(bytes))?;
+    writeln!(out, "{}: {}", kept(keep), Answer(read))
 }
 
-fn say_front(to: Stdout, text: &[u8], n: usize) {
-    if n <= text.len() {
-        say(to, &text[..n]);
-    }
+fn text<W: Write>(out: &mut W, name: &str, text: &[u8]) -> io::Result<()> {
+    let parsed = Decimal::parse_str_bytes(text).map(Printed);
+    writeln!(out, "{name}: {}", Answer(parsed))
 }
 
-fn say_hex(to: Stdout, bytes: &[u8], n: usize) {
-    let mut room = [0u8; 64];
-    let mut out = Output::new(to, &mut room);
-    let at = put_front_hex(&mut out, 0, bytes, n);
-    flush(&out, at);
-}
-
-// What a decimal prints, or its refusal.
-fn say_decimal(to: Stdout, d: Decimal) {
-    let mut text = [0u8; 68];
-    match d.print(&mut text) {
-        Counted::Bytes(n) => say_front(to, &text, n),
-        Counted::Refused(r) => say_refused(to, r),
-    }
-}
-
-fn say_answer(to: Stdout, a: Answer) {
-    if a.refusal == 0 {
-        say_decimal(to, a.decimal);
-    } else {
-        say_refused(to, a.refusal);
-    }
-    say(to, b"\n");
-}
-
-fn say_keep(to: Stdout, keep: bool) {
-    if keep {
-        say(to, b" kept: ");
-    } else {
-        say(to, b": ");
-    }
-}
-
-fn packed(to: Stdout, bytes: &[u8], keep: bool) {
-    say(to, b"packed ");
-    say_hex(to, bytes, bytes.len());
-    say_keep(to, keep);
-    say_answer(to, Decimal::read_packed(bytes, keep));
-}
-
-fn bin(to: Stdout, bytes: &[u8], precision: usize, scale: usize, keep: bool) {
-    say(to, b"(");
-    say_number(to, precision);
-    say(to, b",");
-    say_number(to, scale);
-    say(to, b") ");
-    say_hex(to, bytes, bytes.len());
-    say_keep(to, keep);
-    say_answer(to, Decimal::read_bin(bytes, precision, scale, keep));
-}
-
-fn text(to: Stdout, name: &[u8], text: &[u8]) {
-    say(to, name);
-    say(to, b": ");
-    say_answer(to, Decimal::parse_str_bytes(text));
-}
-
-fn say_order(to: Stdout, c: Compared) {
-    match c {
-        Compared::Less => say(to, b": less\n"),
-        Compared::Equal => say(to, b": equal\n"),
-        Compared::Greater => say(to, b": greater\n"),
-        Compared::Refused(r) => {
-            say(to, b": ");
-            say_refused(to, r);
-            say(to, b"\n");
-        }
-    }
+// The order of two values, or the first refusal.
+fn order_of(x: Read, y: Read) -> Result<Ordering, Refusal> {
+    x?.compare(y?)
 }
 
 // The order of two texts' values.
-fn order(to: Stdout, a: &[u8], b: &[u8]) {
-    let x = Decimal::parse_str_bytes(a);
-    let y = Decimal::parse_str_bytes(b);
-    say(to, a);
-    say(to, b" and ");
-    say(to, b);
-    let d = x.decimal;
-    let e = y.decimal;
-    say_order(to, d.compare(e));
+fn order<W: Write>(out: &mut W, a: &str, b: &str) -> io::Result<()> {
+    let x = Decimal::parse_str_bytes(a.as_bytes());
+    let y = Decimal::parse_str_bytes(b.as_bytes());
+    writeln!(
+        out,
+        "{a} and {b}: {}",
+        Answer(order_of(x, y).map(OrderWord))
+    )
 }
 
 // The order of the values in digit bytes and in a text.
-fn order_bin(to: Stdout, bytes: &[u8], precision: usize, b: &[u8]) {
+fn order_bin<W: Write>(out: &mut W, bytes: &[u8], precision: usize, b: &str) -> io::Result<()> {
     let x = Decimal::read_bin(bytes, precision, 0, true);
-    let y = Decimal::parse_str_bytes(b);
-    let d = x.decimal;
-    let e = y.decimal;
-    say_hex(to, bytes, bytes.len());
-    say(to, b" and ");
-    say(to, b);
-    say_order(to, d.compare(e));
+    let y = Decimal::parse_str_bytes(b.as_bytes());
+    let order = order_of(x, y).map(OrderWord);
+    writeln!(out, "{} and {b}: {}", Hex(bytes), Answer(order))
 }
 
-fn say_count(to: Stdout, c: Counted) {
-    match c {
-        Counted::Bytes(n) => say_number(to, n),
-        Counted::Refused(r) => say_refused(to, r),
-    }
+fn size_of(x: Read) -> Result<usize, Refusal> {
+    x?.bin_size()
 }
 
-fn say_width(to: Stdout, digits: usize) {
-    say(to, b" ");
-    say_count(to, decimal::decimal_bin_size(digits, 0));
-}
-
-// The bytes of each count of digits in one group.
-fn widths(to: Stdout) {
-    for d in 0..10 {
-        say_width(to, d);
-    }
+fn written_to(x: Read, room: &mut [u8]) -> Result<usize, Refusal> {
+    x?.write_bin(room)
 }
 
 // A text's digit bytes, into as much room as there is.
-fn written(to: Stdout, a: &[u8], room: &mut [u8]) {
-    let x = Decimal::parse_str_bytes(a);
-    let d = x.decimal;
-    say(to, a);
-    say(to, b" takes ");
-    say_count(to, d.bin_size());
-    say(to, b", in ");
-    say_number(to, room.len());
-    say(to, b": ");
-    match d.write_bin(room) {
-        Counted::Bytes(n) => say_hex(to, room, n),
-        Counted::Refused(r) => say_refused(to, r),
-    }
-    say(to, b"\n");
-}
-
-// The digit bytes that a decimal writes.
-fn say_bin(to: Stdout, d: Decimal) {
-    let mut room = [0u8; 36];
-    match d.write_bin(&mut room) {
-        Counted::Bytes(n) => say_hex(to, &room, n),
-        Counted::Refused(r) => say_refused(to, r),
-    }
+fn written<W: Write>(out: &mut W, a: &str, room: &mut [u8]) -> io::Result<()> {
+    let x = Decimal::parse_str_bytes(a.as_bytes());
+    let n = written_to(x, room);
+    write!(out, "{a} takes {}, in {}: ", Answer(size_of(x)), room.len())?;
+    let bytes = n.map(|n| Hex(&room[..n.min(room.len())]));
+    writeln!(out, "{}", Answer(bytes))
 }
 
 // What digit bytes come back as when they are read with kept precision and written.
-fn back(to: Stdout, bytes: &[u8], precision: usize, scale: usize) {
-    let x = Decimal::read_bin(bytes, precision, scale, true);
-    let d = x.decimal;
-    say_hex(to, bytes, bytes.len());
-    say(to, b" comes back as ");
-    say_bin(to, d);
-    say(to, b"\n");
+fn back<W: Write>(out: &mut W, bytes: &[u8], precision: usize, scale: usize) -> io::Result<()> {
+    let read = Decimal::read_bin(bytes, precision, scale, true).map(Digits);
+    writeln!(out, "{} comes back as {}", Hex(bytes), Answer(read))
 }
 
 // A record whose groups are all zero, with a sign or without.
-fn zero_record(to: Stdout, name: &[u8], sign: bool) {
+fn zero_record<W: Write>(out: &mut W, name: &str, sign: bool) -> io::Result<()> {
     let d = Decimal {
         intg: 1,
         frac: 1,
         sign,
-        groups: [0u32; 9],
+        groups: [0; 9],
     };
-    say(to, name);
-    say(to, b" prints ");
-    say_decimal(to, d);
-    say(to, b", takes ");
-    say_count(to, d.bin_size());
-    say(to, b", writes ");
-    say_bin(to, d);
-    say(to, b"; beside itself");
-    say_order(to, d.compare(d));
+    write!(out, "{name} prints {}, takes ", Printed(d))?;
+    write!(out, "{}, writes {}; ", Answer(d.bin_size()), Digits(d))?;
+    let order = d.compare(d).map(OrderWord);
+    writeln!(out, "beside itself: {}", Answer(order))
 }
 
-fn packed_examples(to: Stdout) {
-    packed(to, &[0x04, 0x02, 0x73, 0xDD], true);
-    packed(to, &[0x04, 0x02, 0x8C, 0x22], true);
-    packed(to, &[0x04], true);
+fn packed_examples<W: Write>(out: &mut W) -> io::Result<()> {
+    for bytes in [&b"\x04\x02\x73\xDD"[..], b"\x04\x02\x8C\x22", b"\x04"] {
+        packed(out, bytes, true)?;
+    }
+    Ok(())
 }
 
-fn bin_examples(to: Stdout) {
-    bin(to, &[0xE3], 2, 0, true);
-    bin(to, &[0xE4], 2, 0, true);
-    bin(to, &[0x7F], 2, 0, true);
-    bin(to, &[0x7F], 2, 0, false);
+fn bin_examples<W: Write>(out: &mut W) -> io::Result<()> {
+    bin(out, b"\xE3", 2, 0, true)?;
+    bin(out, b"\xE4", 2, 0, true)?;
+    bin(out, b"\x7F", 2, 0, true)?;
+    bin(out, b"\x7F", 2, 0, false)?;
+    bin(out, b"", 0, 0, true)?;
+    bin(out, b"\x80", 1, 2, true)?;
+    bin(out, b"\x80", 3, 0, true)
 }
 
-fn range_examples(to: Stdout) {
-    bin(to, &[], 0, 0, true);
-    bin(to, &[0x80], 1, 2, true);
-    bin(to, &[0x80], 3, 0, true);
+fn text_examples<W: Write>(out: &mut W) -> io::Result<()> {
+    for a in ["007", ".5", "."] {
+        text(out, a, a.as_bytes())?;
+    }
+    text(out, "66 zeros", &[b'0'; 66])?;
+    let mut minus = [b'0'; 67];
+    minus[0] = b'-';
+    text(out, "- and 66 zeros", &minus)?;
+    text(out, "1 with a space", b"1 ")?;
+    for a in ["00-5", "5.", "-0.00", "0123456789"] {
+        text(out, a, a.as_bytes())?;
+    }
+    Ok(())
 }
 
-fn text_examples(to: Stdout) {
-    text(to, b"007", b"007");
-    text(to, b".5", b".5");
-    text(to, b".", b".");
+fn order_examples<W: Write>(out: &mut W) -> io::Result<()> {
+    order(out, "9", "100")?;
+    order(out, "1", "1.0")?;
+    order(out, "1", ".1")?;
+    order_bin(out, b"\x7F", 2, "0")?;
+    order(out, "-9", "-100")
 }
 
-fn long_text_examples(to: Stdout) {
-    let zeros = [48u8; 66];
-    text(to, b"66 zeros", &zeros);
-    let mut minus = [48u8; 67];
-    minus[0] = 45;
-    text(to, b"- and 66 zeros", &minus);
+fn zero_examples<W: Write>(out: &mut W) -> io::Result<()> {
+    for bytes in [b"\x7F\xFF", b"\x7F\xFE", b"\x80\x00"] {
+        back(out, bytes, 2, 1)?;
+    }
+    zero_record(out, "record 0.0", false)?;
+    zero_record(out, "record 0.0 with a sign", true)
 }
 
-fn more_text_examples(to: Stdout) {
-    text(to, b"1 with a space", b"1 ");
-    text(to, b"00-5", b"00-5");
-    text(to, b"5.", b"5.");
-    text(to, b"-0.00", b"-0.00");
-    text(to, b"0123456789", b"0123456789");
+// The bytes of each count of digits in one group.
+fn width_examples<W: Write>(out: &mut W) -> io::Result<()> {
+    write!(out, "bytes of 0 to 9 digits:")?;
+    for digits in 0..10 {
+        write!(out, " {}", Answer(decimal::decimal_bin_size(digits, 0)))?;
+    }
+    writeln!(out)
 }
 
-fn order_examples(to: Stdout) {
-    order(to, b"9", b"100");
-    order(to, b"1", b"1.0");
-    order(to, b"1", b".1");
-    order_bin(to, &[0x7F], 2, b"0");
-    order(to, b"-9", b"-100");
-}
-
-fn zero_examples(to: Stdout) {
-    back(to, &[0x7F, 0xFF], 2, 1);
-    back(to, &[0x7F, 0xFE], 2, 1);
-    back(to, &[0x80, 0x00], 2, 1);
-    zero_record(to, b"record 0.0", false);
-    zero_record(to, b"record 0.0 with a sign", true);
-}
-
-fn width_examples(to: Stdout) {
-    say(to, b"bytes of 0 to 9 digits:");
-    widths(to);
-    say(to, b"\n");
-}
-
-fn written_examples(to: Stdout) {
+fn written_examples<W: Write>(out: &mut W) -> io::Result<()> {
     let mut room = [0u8; 8];
-    written(to, b"1234567890.1234", &mut room);
-    written(to, b"-1234567890.1234", &mut room);
-    let mut less = [0u8; 6];
-    written(to, b"1234567890.1234", &mut less);
+    written(out, "1234567890.1234", &mut room)?;
+    written(out, "-1234567890.1234", &mut room)?;
+    written(out, "1234567890.1234", &mut room[..6])
 }
 
+fn examples(out: &mut Output<'_>) -> io::Result<()> {
+    packed_examples(out)?;
+    bin_examples(out)?;
+    text_examples(out)?;
+    order_examples(out)?;
+    zero_examples(out)?;
+    width_examples(out)?;
+    written_examples(out)?;
+    out.flush()
+}
+
+// A failed write ends it, and is not told.
 fn main(rt: HostRuntime) {
-    let to = rt.stdout();
-    packed_examples(to);
-    bin_examples(to);
-    range_examples(to);
-    text_examples(to);
-    long_text_examples(to);
-    more_text_examples(to);
-    order_examples(to);
-    zero_examples(to);
-    width_examples(to);
-    written_examples(to);
+    let mut room = [0u8; 4096];
+    let _ = examples(&mut Output::new(rt.stdout(), &mut room));
 }

@@ -1,179 +1,155 @@
-// Words that are put at a place of an output; the answer is the place behind them. Its room may have any length: where a text does not fit, what stands before
-// it is written to standard output first. A place past the output's end says that a write failed, and nothing is put there.
+// What programs write: words for standard output, which wait in a room that the caller lends; answers, bytes and texts as words; and what a function writes to a
+// room.
 #![tactic(auto)]
 
-ghost use Rattle.std.specs.Prelude.{◌+◌, ◌<◌, ◌≤◌, length};
+ghost use Rattle.std.specs.Prelude.{◌≤◌, length};
 
-use std::io::{Print, Stdout};
+use refusal::Refusal;
+use std::fmt::{Display, Formatter};
+use std::io::{Stdout, Write};
+use std::{fmt, io};
 
-// A room that the caller lends, and where it is written to.
+// A room of any length, and how much of it waits to be written. What does not fit is written first; a text that is longer than the room is written as it
+// is. (std's BufWriter takes its room from an allocator, and nothing here is taken from one.)
 #[derive(Drop)]
 pub struct Output<'a> {
     to: Stdout,
     room: &'a mut [u8],
+    len: usize,
+    ghost filled: { len ≤ length room.now },
 }
-
-// The place that is past every output.
-const LOST: usize = 18446744073709551615;
 
 impl<'a> Output<'a> {
     pub fn new(to: Stdout, room: &'a mut [u8]) -> Output<'a> {
-        Output { to, room }
+        Output { to, room, len: 0 }
     }
 }
 
-// Whether all of a text was written.
-fn is_written(to: Stdout, text: &[u8]) -> bool {
-    to.write_all(text).is_ok()
+impl Write for Output<'_> {
+    fn write(&mut self, text: &[u8]) -> io::Result<usize> {
+        let n = text.len();
+        if self.room.len() - self.len < n {
+            self.flush()?;
+        }
+        if self.room.len() - self.len < n {
+            return self.to.write(text);
+        }
+        self.room[self.len..self.len + n].copy_from_slice(text);
+        self.len += n;
+        Ok(n)
+    }
+
+    fn flush(&mut self) -> io::Result<()> {
+        self.to.write_all(&self.room[..self.len])?;
+        self.len = 0;
+        Ok(())
+    }
 }
 
-// Writes what stands before a place: the output can be filled from its front again.
-pub fn flush(out: &Output<'_>, at: usize) -> usize {
-    if at <= out.room.len() {
-        if is_written(out.to, &out.room[..at]) {
-            return 0;
+// ---- words
+
+// An answer, or the number of its refusal.
+#[derive(Clone, Copy)]
+pub struct Answer<T>(pub Result<T, Refusal>);
+
+impl<T: Display> Display for Answer<T> {
+    fn fmt<W: fmt::Write>(&self, f: &mut Formatter<W>) -> fmt::Result {
+        match &self.0 {
+            Ok(x) => write!(f, "{x}"),
+            Err(r) => write!(f, "refused {}", r.number()),
         }
     }
-    LOST
 }
 
-fn copy(out: &mut [u8], at: usize, text: &[u8])
-    requires { at + length text.now ≤ length out.old }
-{
-    for i in 0..text.len() {
-        out[at + i] = text[i];
-    }
-}
+// Something, or a word for nothing.
+#[derive(Clone, Copy)]
+pub struct Or<T>(pub Option<T>, pub &'static str);
 
-// Puts a text to the front of an output that was written; one that is longer than the output is written as it is.
-fn put_anew(out: &mut Output<'_>, at: usize, text: &[u8]) -> usize {
-    if at != 0 {
-        return at;
-    }
-    if out.room.len() < text.len() {
-        if is_written(out.to, text) {
-            return 0;
-        }
-        return LOST;
-    }
-    copy(out.room, 0, text);
-    text.len()
-}
-
-pub fn put(out: &mut Output<'_>, at: usize, text: &[u8]) -> usize {
-    if out.room.len() < at {
-        return at;
-    }
-    if out.room.len() - at < text.len() {
-        let front = flush(out, at);
-        return put_anew(out, front, text);
-    }
-    copy(out.room, at, text);
-    at + text.len()
-}
-
-// The first bytes of a text.
-pub fn put_front(out: &mut Output<'_>, at: usize, text: &[u8], n: usize) -> usize {
-    if n <= text.len() {
-        return put(out, at, &text[..n]);
-    }
-    at
-}
-
-fn digit(d: u64) -> u8
-    requires { d < 16 }
-{
-    if d < 10 { 48 + d as u8 } else { 87 + d as u8 }
-}
-
-// Puts a number's digits in a base to the end of a text, at least one and as many as asked for, or those that there is room for: where they begin.
-fn digits(n: u64, base: u64, width: usize, text: &mut [u8]) -> usize
-    requires base_nonzero { 0 < base }
-    requires base_small { base ≤ 16 }
-    ensures { result ≤ length text.new }
-{
-    let len = text.len();
-    let mut from = len;
-    let mut rest = n;
-    while 0 < from && (from == len || 0 < rest || len - from < width) {
-        from -= 1;
-        text[from] = digit(rest % base);
-        rest /= base;
-    }
-    from
-}
-
-pub fn put_number(out: &mut Output<'_>, at: usize, n: u64) -> usize {
-    let mut text = [0u8; 20];
-    let from = digits(n, 10, 1, &mut text);
-    put(out, at, &text[from..])
-}
-
-// After a space.
-pub fn put_next(out: &mut Output<'_>, at: usize, n: u64) -> usize {
-    let next = put(out, at, b" ");
-    put_number(out, next, n)
-}
-
-// As many hexadecimal digits, or more where it needs them.
-pub fn put_digits(out: &mut Output<'_>, at: usize, n: u64, width: usize) -> usize {
-    let mut text = [0u8; 16];
-    let from = digits(n, 16, width, &mut text);
-    put(out, at, &text[from..])
-}
-
-pub fn put_refused(out: &mut Output<'_>, at: usize, n: u8) -> usize {
-    let next = put(out, at, b"refused ");
-    put_number(out, next, n as u64)
-}
-
-// To a line that is no request.
-pub fn put_what(out: &mut Output<'_>, at: usize) -> usize {
-    put(out, at, b"what")
-}
-
-fn wide(b: u8) -> u64 {
-    b as u64
-}
-
-// The first bytes in hexadecimal digits.
-pub fn put_front_hex(out: &mut Output<'_>, at: usize, bytes: &[u8], n: usize) -> usize {
-    let mut next = at;
-    if n <= bytes.len() {
-        for i in 0..n {
-            next = put_digits(out, next, wide(bytes[i]), 2);
+impl<T: Display> Display for Or<T> {
+    fn fmt<W: fmt::Write>(&self, f: &mut Formatter<W>) -> fmt::Result {
+        match &self.0 {
+            Some(x) => write!(f, "{x}"),
+            None => write!(f, "{}", self.1),
         }
     }
-    next
 }
 
-// Bytes in hexadecimal digits, - for none.
-pub fn put_hex(out: &mut Output<'_>, at: usize, bytes: &[u8]) -> usize {
-    if bytes.len() == 0 {
-        return put(out, at, b"-");
-    }
-    put_front_hex(out, at, bytes, bytes.len())
-}
+// Bytes in hexadecimal digits.
+#[derive(Clone, Copy)]
+pub struct Hex<'a>(pub &'a [u8]);
 
-// ---- a room that a result is written to
-
-// What a byte of it holds before.
-pub const FILL: u8 = 165;
-
-// Whether all bytes from a place on are as they were.
-pub fn is_filled(room: &[u8], from: usize) -> bool {
-    for i in from..room.len() {
-        if room[i] != FILL {
-            return false;
+impl Display for Hex<'_> {
+    fn fmt<W: fmt::Write>(&self, f: &mut Formatter<W>) -> fmt::Result {
+        for b in self.0 {
+            write!(f, "{b:02x}")?;
         }
+        Ok(())
     }
-    true
 }
 
-// Whether every byte outside the result is as it was.
-pub fn put_kept(out: &mut Output<'_>, at: usize, is_kept: bool) -> usize {
-    if is_kept {
-        return put(out, at, b" ; kept");
+// The same, and - for none.
+#[derive(Clone, Copy)]
+pub struct HexWord<'a>(pub &'a [u8]);
+
+impl Display for HexWord<'_> {
+    fn fmt<W: fmt::Write>(&self, f: &mut Formatter<W>) -> fmt::Result {
+        if self.0.is_empty() {
+            return write!(f, "-");
+        }
+        write!(f, "{}", Hex(self.0))
     }
-    put(out, at, b" ; touched")
+}
+
+// Bytes of ASCII as text.
+#[derive(Clone, Copy)]
+pub struct Ascii<'a>(pub &'a [u8]);
+
+impl Display for Ascii<'_> {
+    fn fmt<W: fmt::Write>(&self, f: &mut Formatter<W>) -> fmt::Result {
+        for b in self.0 {
+            write!(f, "{}", char::from(*b))?;
+        }
+        Ok(())
+    }
+}
+
+// ---- what a function writes to a room
+
+// The bytes of the room.
+pub const ROOM: usize = 128;
+
+// What a byte of the room holds before.
+const FILL: u8 = 165;
+
+// A room to whose first bytes something was written: how many they are, or a refusal.
+#[derive(Clone, Copy)]
+pub struct Written {
+    room: [u8; ROOM],
+    len: Result<usize, Refusal>,
+}
+
+impl Written {
+    // By a function that is lent so many bytes of the room, or all.
+    pub fn by<F: FnOnce(&mut [u8]) -> Result<usize, Refusal>>(lent: usize, write: F) -> Written
+        requires { F.IsAlwaysCallable write }
+    {
+        let mut room = [FILL; ROOM];
+        let len = write(&mut room[..lent.min(ROOM)]);
+        Written { room, len }
+    }
+
+    pub fn bytes(&self) -> Result<&[u8], Refusal> {
+        let n = self.len?;
+        Ok(&self.room[..n.min(ROOM)])
+    }
+
+    // Whether every byte behind the written ones is as it was.
+    pub fn is_kept(&self) -> bool {
+        let n = self.len.unwrap_or(0);
+        self.room.iter().skip(n).all(|b| *b == FILL)
+    }
+}
+
+pub fn kept(is_kept: bool) -> &'static str {
+    if is_kept { "kept" } else { "touched" }
 }

@@ -2,155 +2,112 @@
 // bytes of strings and keys, length fields, and decimals in opaque values.
 #![tactic(auto)]
 
-use columns::ColumnType;
-use decimal_words::say_answer;
-use jsonb::{Found, Key, Read, Scalar, Span, Value, View};
+use decimal::Decimal;
+use decimal_words::DecimalWords;
+use jsonb::{Scalar, Span, Value};
 use length_field::Length;
-use std::io::Stdout;
-use words::{root_view, say, say_container, say_document, say_hex, say_number, say_refused};
+use output::{Answer, Ascii, HexWord, Or, Output};
+use refusal::Refusal;
+use std::io;
+use std::io::Write;
+use words::Container;
 
 // ---- bytes of the document
 
-fn is_printed(b: u8) -> bool {
-    if b < 32 {
-        return false;
-    }
-    b < 127
-}
-
-fn all_printed(bytes: &[u8]) -> bool {
-    for i in 0..bytes.len() {
-        if !is_printed(bytes[i]) {
-            return false;
-        }
-    }
-    true
-}
-
 // Bytes as text between quotation marks where all are ASCII that prints, else in hexadecimal digits.
-fn say_bytes(to: Stdout, bytes: &[u8]) {
-    if all_printed(bytes) {
-        say(to, b"\"");
-        say(to, bytes);
-        say(to, b"\"");
-    } else {
-        say_hex(to, bytes);
+fn write_bytes<W: Write>(out: &mut W, bytes: &[u8]) -> io::Result<()> {
+    if bytes.iter().all(|b| b.is_ascii_graphic() || *b == b' ') {
+        return writeln!(out, "\"{}\"", Ascii(bytes));
     }
+    writeln!(out, "{}", HexWord(bytes))
 }
 
-fn say_part(to: Stdout, doc: &[u8], s: Span) {
+fn write_part<W: Write>(out: &mut W, doc: &[u8], s: Span) -> io::Result<()> {
     let start = s.start as usize;
     let end = start + s.len as usize;
-    if end <= doc.len() {
-        say_bytes(to, &doc[start..end]);
+    match doc.get(start..end) {
+        Some(bytes) => write_bytes(out, bytes),
+        None => writeln!(out),
     }
-    say(to, b"\n");
 }
 
 // The bytes of an element that is a string.
-fn element_bytes(to: Stdout, doc: &[u8], v: View, pos: u32) {
-    let Found::Value(x) = jsonb::elem_at(doc, v, pos) else {
-        return;
+fn element_bytes<W: Write>(out: &mut W, c: Container<'_>, pos: u32) -> io::Result<()> {
+    let Ok(Some(Value::Scalar(_, Scalar::String(part)))) = jsonb::elem_at(c.doc, c.view, pos) else {
+        return Ok(());
     };
-    let Value::Scalar(_, s) = x else {
-        return;
-    };
-    let Scalar::String(p) = s else {
-        return;
-    };
-    say(to, b"bytes of element ");
-    say_number(to, pos as u64);
-    say_container(to, doc, v);
-    say_part(to, doc, p);
+    write!(out, "bytes of element {pos} of {c}: ")?;
+    write_part(out, c.doc, part)
 }
 
-fn key_bytes(to: Stdout, doc: &[u8], v: View, pos: u32) {
-    let Key::Key(p) = jsonb::key_at(doc, v, pos) else {
-        return;
+fn key_bytes<W: Write>(out: &mut W, c: Container<'_>, pos: u32) -> io::Result<()> {
+    let Ok(Some(part)) = jsonb::key_at(c.doc, c.view, pos) else {
+        return Ok(());
     };
-    say(to, b"bytes of key ");
-    say_number(to, pos as u64);
-    say_container(to, doc, v);
-    say_part(to, doc, p);
+    write!(out, "bytes of key {pos} of {c}: ")?;
+    write_part(out, c.doc, part)
 }
 
-// ---- length fields: the length, and the place past the field
+// ---- length fields
 
-fn say_length(to: Stdout, l: Length) {
-    match l {
-        Length::Field { length, next } => {
-            say_number(to, length as u64);
-            say(to, b", and the field ends at ");
-            say_number(to, next as u64);
-        }
-        Length::Refused(n) => say_refused(to, n),
+// The length, and the place past the field.
+fn length<W: Write>(out: &mut W, doc: &[u8]) -> io::Result<()> {
+    write!(out, "length {}: ", HexWord(doc))?;
+    match length_field::length_at(doc, 0, doc.len()) {
+        Ok(Length { length, next }) => writeln!(out, "{length}, and the field ends at {next}"),
+        Err(r) => writeln!(out, "refused {}", r.number()),
     }
-}
-
-fn length(to: Stdout, doc: &[u8]) {
-    say(to, b"length ");
-    say_document(to, doc);
-    say_length(to, length_field::length_at(doc, 0, doc.len()));
-    say(to, b"\n");
 }
 
 // ---- decimals
 
-// The decimal of an opaque value, with its precision kept; other values are none.
-fn say_decimal_of(to: Stdout, doc: &[u8], x: Value) {
-    if let Value::Scalar(_, s) = x {
-        if let Scalar::Opaque(t, p) = s {
-            if let ColumnType::Newdecimal = t {
-                say_answer(to, opaque::opaque_decimal(doc, p, true));
-                return;
-            }
-        }
+// The decimal that the root is, with its precision kept; other values are none.
+fn root_decimal(doc: &[u8]) -> Result<Option<Decimal>, Refusal> {
+    match opaque::decimal_part(jsonb::deserialize(doc)?) {
+        Some(part) => Ok(Some(opaque::opaque_decimal(doc, part, true)?)),
+        None => Ok(None),
     }
-    say(to, b"other");
 }
 
-// The decimal that is the root.
-fn decimal(to: Stdout, doc: &[u8]) {
-    say(to, b"decimal ");
-    say_document(to, doc);
-    match jsonb::deserialize(doc) {
-        Read::Value(x) => say_decimal_of(to, doc, x),
-        Read::Refused(n) => say_refused(to, n),
-    }
-    say(to, b"\n");
+fn decimal<W: Write>(out: &mut W, doc: &[u8]) -> io::Result<()> {
+    let root = root_decimal(doc).map(|d| Or(d.map(DecimalWords), "other"));
+    writeln!(out, "decimal {}: {}", HexWord(doc), Answer(root))
 }
 
 // ---- the examples
 
 // An object whose member a is Zoë, and a string that begins among later entries.
-fn byte_examples(to: Stdout) {
-    let object = [
-        0x00, 0x01, 0x00, 0x11, 0x00, 0x0B, 0x00, 0x01, 0x00, 0x0C, 0x0C, 0x00, 0x61, 0x04, 0x5A,
-        0x6F, 0xC3, 0xAB,
-    ];
-    key_bytes(to, &object, root_view(&object), 0);
-    element_bytes(to, &object, root_view(&object), 0);
-    let array = [
-        0x02, 0x02, 0x00, 0x0C, 0x00, 0x0C, 0x07, 0x00, 0x04, 0x01, 0x00, 0x41, 0x42,
-    ];
-    element_bytes(to, &array, root_view(&array), 0);
+fn byte_examples<W: Write>(out: &mut W) -> io::Result<()> {
+    let object = Container::root(
+        b"\x00\x01\x00\x11\x00\x0B\x00\x01\x00\x0C\x0C\x00\x61\x04\x5A\x6F\xC3\xAB",
+    );
+    key_bytes(out, object, 0)?;
+    element_bytes(out, object, 0)?;
+    let array = Container::root(b"\x02\x02\x00\x0C\x00\x0C\x07\x00\x04\x01\x00\x41\x42");
+    element_bytes(out, array, 0)
 }
 
-fn length_examples(to: Stdout) {
-    length(to, &[0x80, 0x80, 0x80, 0x80, 0x0F]);
-    length(to, &[0x80, 0x80, 0x80, 0x80, 0x10]);
+fn length_examples<W: Write>(out: &mut W) -> io::Result<()> {
+    length(out, b"\x80\x80\x80\x80\x0F")?;
+    length(out, b"\x80\x80\x80\x80\x10")
 }
 
 // -12.34; a decimal whose bytes are too few; and a string.
-fn decimal_examples(to: Stdout) {
-    decimal(to, &[0x0F, 0xF6, 0x04, 0x04, 0x02, 0x73, 0xDD]);
-    decimal(to, &[0x0F, 0xF6, 0x03, 0x04, 0x02, 0x73, 0xDD]);
-    decimal(to, &[0x0C, 0x04, 0x04, 0x02, 0x73, 0xDD]);
+fn decimal_examples<W: Write>(out: &mut W) -> io::Result<()> {
+    decimal(out, b"\x0F\xF6\x04\x04\x02\x73\xDD")?;
+    decimal(out, b"\x0F\xF6\x03\x04\x02\x73\xDD")?;
+    decimal(out, b"\x0C\x04\x04\x02\x73\xDD")
 }
 
+fn examples(out: &mut Output<'_>) -> io::Result<()> {
+    byte_examples(out)?;
+    length_examples(out)?;
+    decimal_examples(out)?;
+    out.flush()
+}
+
+// A failed write ends it, and is not told.
 fn main(rt: HostRuntime) {
-    let to = rt.stdout();
-    byte_examples(to);
-    length_examples(to);
-    decimal_examples(to);
+    let mut room = [0u8; 4096];
+    let _ = examples(&mut Output::new(rt.stdout(), &mut room));
 }

@@ -3,7 +3,7 @@
 use mathlib.Core.Path.{◌≡◌, ap, ◌∙◌, sym}
 use mathlib.Core.List.{List}
 use Prim.Native.Nat.{ℕ}
-use Rattle.events.specs.declared.Walked.{Walked}
+use Rattle.events.specs.Walked.{Walked}
 use Rattle.events.specs.Listing.{Listing}
 use Rattle.events.specs.Lay.{laid, lay}
 use Rattle.paths.specs.Paths.{paths, scan}

@@ -9,8 +9,7 @@ use lib.ListN.{length, drop, length-append, length-drop}
 use lib.Seq.{sets, sets-eq, take-append_seam, drop-append-add, drop-drop}
 use borrow.Author.Tests.{le-ltb, lt-ltb}
 use Rattle.events.specs.declared.Event.{Event}
-use Rattle.events.specs.declared.Walked.{Walked}
-use Rattle.events.specs.declared.Walked.TheVariants.{Done, Stopped}
+use Rattle.events.specs.Walked.{Walked, Done, Stopped}
 use Rattle.events.specs.Events.{numbers, wide}
 use Rattle.events.specs.Listing.{Listing, end, fault, event}
 use Rattle.events.specs.Lay.{Laid, laid, lay, put, room}

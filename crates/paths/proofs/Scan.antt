@@ -17,8 +17,7 @@ use Rattle.entry.specs.Entries.{place_at}
 use Rattle.gate.specs.Said.{Said, says, nothing, refuses}
 use Rattle.events.specs.Events.{event_of}
 use Rattle.paths.specs.Judged.{Stand, Judged, bad, good, spot, text_then, value_judged, key_judged, judged, node}
-use Rattle.utf8.specs.declared.Utf8Check.{Utf8Check}
-use Rattle.utf8.specs.declared.Utf8Check.TheVariants.{Valid, Bad}
+use Rattle.std.specs.Prelude.{Result, Ok, Err, ⊤}
 use Rattle.events.specs.Text.{text_at, value_text}
 use Rattle.events.specs.declared.Spot.{Spot}
 use Rattle.events.specs.Listing.{Listing, end, fault, event}
@@ -90,9 +89,9 @@ module _ (d : List ℕ) (all : List Item) (x : Item) where
 -- ---- what is below a path may be told by the value that stands there
 module _ (d : List ℕ) (p : ℕ) (f g : Value → Listing) where
   -- below a text that breaks nothing is listed
-  node-text : (t : Utf8Check) (j : Judged) → node j p f ≡ node j p g → node (text_then t j) p f ≡ node (text_then t j) p g
-  node-text Valid j h = h
-  node-text (Bad q) j h = refl
+  node-text : (t : Result ⊤ ℕ) (j : Judged) → node j p f ≡ node j p g → node (text_then t j) p f ≡ node (text_then t j) p g
+  node-text (Ok u) j h = h
+  node-text (Err q) j h = refl
 
   node-value : (s : Spot) (x : Said Value) → ((y : Value) → x ≡ says y → f y ≡ g y) → node (value_judged d s x) p f ≡ node (value_judged d s x) p g
   node-value s (says y) h = node-text (value_text d y) (good (event_of s y) y) (ap (event (event_of s y) p) (h y refl))

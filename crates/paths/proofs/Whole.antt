@@ -17,13 +17,11 @@ use Rattle.columns.specs.Columns.{type_of as column_type}
 use Rattle.codes.specs.Types.{type_of}
 use Rattle.codes.specs.declared.types.JsonbType.{JsonbType}
 use Rattle.codes.specs.declared.types.JsonbType.TheVariants as type
-use Rattle.codes.specs.declared.types.TypeOf.{TypeOf}
-use Rattle.codes.specs.declared.types.TypeOf.TheVariants as type-of
+use Rattle.codes.specs.declared.literals.LiteralType.{LiteralType}
 use Rattle.codes.specs.declared.literals.LiteralType.TheVariants as literal
-use Rattle.codes.specs.declared.literals.LiteralOf.{LiteralOf}
-use Rattle.codes.specs.declared.literals.LiteralOf.TheVariants as literal-of
-use Rattle.columns.specs.declared.ColumnOf.{ColumnOf}
-use Rattle.columns.specs.declared.ColumnOf.TheVariants as column-of
+use Rattle.std.specs.Prelude.{Result, Ok, Err, ⊤}
+use Rattle.refusal.specs.declared.Refusal.{Refusal}
+use Rattle.refusal.specs.declared.Refusal.TheVariants as refusal
 use Rattle.layout.specs.Layout.{offset_size, header_size, offset_at}
 use Rattle.layout.specs.declared.Kind.{Kind}
 use Rattle.layout.proofs.Inside.{size-two}
@@ -34,22 +32,16 @@ use Rattle.value.specs.declared.Scalar.{Scalar}
 use Rattle.value.specs.declared.Scalar.TheVariants as scalar
 use Rattle.value.specs.declared.Value.{Value}
 use Rattle.value.specs.declared.Value.TheVariants as value
-use Rattle.content.specs.Reading.{kind, view, viewed, container_at, literal_of, literal_at, number_at, part_at, part_of, string_at}
+use Rattle.content.specs.Reading.{kind, view, viewed, container_at, literal_scalar, literal_of, literal_at, number_at, part_at, string_at, scalar_of}
 use Rattle.content.specs.Reading.{opaque_of, opaque_at, content_at, read_at}
-use Rattle.header.specs.Headers.{header_at, header_read, place_fault}
+use Rattle.header.specs.Headers.{header, header_at, header_read, place_of, placed, then}
 use Rattle.header.specs.Course.{Within}
 use Rattle.header.proofs.Placed.{right-place, placed-within}
-use Rattle.content.specs.declared.Read.{Read}
-use Rattle.content.specs.declared.Read.TheVariants as read
 use Rattle.header.specs.declared.Header.{Header}
-use Rattle.header.specs.declared.Header.TheVariants as header
-use Rattle.content.specs.declared.Part.{Part}
-use Rattle.content.specs.declared.Part.TheVariants as part
 use Rattle.entry.specs.Entries.{end_of, is_inlined, place_at, key_place_at, pointed_at, typed_entry, entry_of, entry_at, entry_read, key_entry_at, key_read, value_start}
-use Rattle.gate.specs.Said.{Said, says, nothing, refuses, read_said, part_said}
+use Rattle.gate.specs.Said.{Said, says, nothing, refuses, read_said}
 use Rattle.jsonb.specs.Views.{typed_at, root_read, elem_at, key_at}
 use Rattle.gate.specs.Before.{names, matches, gated, Whole, gate_of}
-use Rattle.gate.specs.declared.Gate.TheVariants.{Open}
 use Rattle.gate.proofs.Gates.{open-whole, whole-entry, whole-key}
 use Rattle.events.specs.Events.{no_key}
 use Rattle.paths.specs.Judged.{Stand}
@@ -66,9 +58,9 @@ abbrev ValueStands : List ℕ → Value → Type 0
 ValueStands d (value.Scalar t s) = Unit {0}
 ValueStands d (value.Container v) = Stands d v
 
-abbrev ReadStands : List ℕ → Read → Type 0
-ReadStands d (read.Value x) = ValueStands d x
-ReadStands d (read.Refused n) = Unit {0}
+abbrev ReadStands : List ℕ → Result Value Refusal → Type 0
+ReadStands d (Ok x) = ValueStands d x
+ReadStands d (Err r) = Unit {0}
 
 abbrev pub SaidStands : List ℕ → Said Value → Type 0
 SaidStands d (says x) = ValueStands d x
@@ -95,10 +87,10 @@ module _ (d : List ℕ) (k : Kind) (i e : ℕ) (w : Within (length d) i e) where
   abbrev s : ℕ
   s = offset_at d k (i + offset_size k) e
 
-  abbrev tests : Bool → Bool → Bool → ℕ → ℕ → Header
-  tests a b c n s = cond a (header.Refused 3) (cond b (header.Refused 4) (cond c (header.Refused 4) (header.Whole n s)))
+  abbrev tests : Bool → Bool → Bool → ℕ → ℕ → Result Header Refusal
+  tests a b c n s = cond a (Err refusal.Cut) (cond b (Err refusal.Size) (cond c (Err refusal.Size) (Ok (header n s))))
 
-  header-far : 2 * offset_size k ≤ e - i → s ≤ e - i → header_size k n ≤ s → header_at d k i (length d) ≡ header.Whole n s
+  header-far : 2 * offset_size k ≤ e - i → s ≤ e - i → header_size k n ≤ s → header_at d k i (length d) ≡ Ok (header n s)
   unfolding header_at
   header-far a b c =
       let z = size-two k in
@@ -113,11 +105,11 @@ module _ (d : List ℕ) (k : Kind) (i e : ℕ) (w : Within (length d) i e) where
   matches-far : 2 * offset_size k ≤ e - i → s ≤ e - i → header_size k n ≤ s → Stands d (view i s n k)
   unfolding matches header_read
   matches-far a b c =
-      let p = placed-within d i (length d) header.Refused {x = header_at d k i (length d)} (record { order = omega arith; inside = le_refl (length d); short = w.short }) in
+      let p = placed-within d i (length d) {x = header_at d k i (length d)} (record { order = omega arith; inside = le_refl (length d); short = w.short }) in
       record {
         short = w.short;
         whole =
-            ap (λ (h : Header). names h n s) (p ∙ header-far a b c)
+            ap (λ (h : Result Header Refusal). names h n s) (p ∙ header-far a b c)
             ∙ ap (λ (t : Bool). cond t (eqb s s) false) (eq-eqb n n refl)
             ∙ eq-eqb s s refl;
       }
@@ -136,47 +128,38 @@ module _ (d : List ℕ) (k : Kind) (i e : ℕ) (w : Within (length d) i e) where
 
 -- ---- scalars are no containers
 module _ (d : List ℕ) where
+  -- what comes after an answer that may be refused
+  then-stands : {A : Type 0} (x : Result A Refusal) (f : A → Result Value Refusal) → ((a : A) → ReadStands d (f a)) → ReadStands d (then x f)
+  then-stands (Ok a) f h = h a
+  then-stands (Err r) f h = tt
+
   number-stands : (t : JsonbType) (w i e : ℕ) (x : Number) → ReadStands d (number_at t w i e x)
   unfolding number_at
   number-stands t w i e x = go (ltb (e - i) w)
     where
-      go : (b : Bool) → ReadStands d (cond b (read.Refused 3) (read.Value (value.Scalar t (scalar.Number x))))
+      go : (b : Bool) → ReadStands d (cond b (Err refusal.Cut) (scalar_of t (scalar.Number x)))
       go true = tt
       go false = tt
-
-  literal-by : (l : LiteralOf) → ReadStands d (literal_of l)
-  literal-by (literal-of.Known literal.Null) = tt
-  literal-by (literal-of.Known literal.True) = tt
-  literal-by (literal-of.Known literal.False) = tt
-  literal-by (literal-of.Refused n) = tt
 
   literal-stands : (i e : ℕ) → ReadStands d (literal_at d i e)
   unfolding literal_at
   literal-stands i e = go (leb e i)
     where
-      go : (b : Bool) → ReadStands d (cond b (read.Refused 3) (literal_of (literal_type (get_or d i 0))))
+      go : (b : Bool) → ReadStands d (cond b (Err refusal.Cut) (literal_of (literal_type (get_or d i 0))))
       go true = tt
-      go false = literal-by (literal_type (get_or d i 0))
-
-  part_by : (t : JsonbType) (make : Span → Scalar) (p : Part) → ReadStands d (part_of t make p)
-  part_by t make (part.Bytes s) = tt
-  part_by t make (part.Refused n) = tt
+      go false = then-stands (literal_type (get_or d i 0)) _ (λ l. tt)
 
   string-stands : (i e : ℕ) → ReadStands d (string_at d i e)
   unfolding string_at
-  string-stands i e = part_by type.String scalar.String (part_at d i e)
-
-  opaque-by : (c : ColumnOf) (p : Part) → ReadStands d (opaque_of c p)
-  opaque-by (column-of.Known t) p = part_by type.Opaque (scalar.Opaque t) p
-  opaque-by (column-of.Refused n) p = tt
+  string-stands i e = then-stands (part_at d i e) _ (λ s. tt)
 
   opaque-stands : (i e : ℕ) → ReadStands d (opaque_at d i e)
   unfolding opaque_at
   opaque-stands i e = go (leb e i)
     where
-      go : (b : Bool) → ReadStands d (cond b (read.Refused 3) (opaque_of (column_type (get_or d i 0)) (part_at d (i + 1) e)))
+      go : (b : Bool) → ReadStands d (cond b (Err refusal.Cut) (opaque_of (column_type (get_or d i 0)) (part_at d (i + 1) e)))
       go true = tt
-      go false = opaque-by (column_type (get_or d i 0)) (part_at d (i + 1) e)
+      go false = then-stands (column_type (get_or d i 0)) _ (λ t. then-stands (part_at d (i + 1) e) _ (λ s. tt))
 
   -- ---- what is read at any place
   content-stands : (t : JsonbType) (i e : ℕ) → Within (length d) i e → ReadStands d (content_at d t i e)
@@ -198,30 +181,26 @@ module _ (d : List ℕ) where
 
   read-stands : (t : JsonbType) (i e : ℕ) → ReadStands d (read_at d t i e)
   unfolding read_at
-  read-stands t i e = go (eqb (place_fault d i e) 0) refl
+  read-stands t i e = go (place_of d i e) refl
     where
-      go : (b : Bool) → eqb (place_fault d i e) 0 ≡ b → ReadStands d (cond b (content_at d t i e) (read.Refused (place_fault d i e)))
-      go true q = content-stands t i e (right-place d i e refl (eqb-true (place_fault d i e) 0 q))
-      go false q = tt
+      go : (r : Result ⊤ Refusal) → place_of d i e ≡ r → ReadStands d (then r (λ _. content_at d t i e))
+      go (Ok u) q = content-stands t i e (right-place d i e q)
+      go (Err r) q = tt
 
   -- ---- the root
   root-read : ReadStands d (root_read d)
   unfolding root_read
   root-read = go (ltb 16777216 (length d)) (eqb (length d) 0)
     where
-      typed : (y : TypeOf) → ReadStands d (typed_at d y 1 (length d))
-      typed (type-of.Known t) = read-stands t 1 (length d)
-      typed (type-of.Refused n) = tt
-
       go : (a b : Bool) →
-          ReadStands d (cond a (read.Refused 1) (cond b (read.Value (value.Scalar type.Literal scalar.Null)) (typed_at d (type_of (get_or d 0 0)) 1 (length d))))
+          ReadStands d (cond a (Err refusal.Document) (cond b (scalar_of type.Literal scalar.Null) (typed_at d (type_of (get_or d 0 0)) 1 (length d))))
       go true b = tt
       go false true = tt
-      go false false = typed (type_of (get_or d 0 0))
+      go false false = then-stands (type_of (get_or d 0 0)) _ (λ t. read-stands t 1 (length d))
 
-  said-stands : (r : Read) → ReadStands d r → SaidStands d (read_said r)
-  said-stands (read.Value x) h = h
-  said-stands (read.Refused n) h = tt
+  said-stands : (r : Result Value Refusal) → ReadStands d r → SaidStands d (read_said r)
+  said-stands (Ok x) h = h
+  said-stands (Err r) h = tt
 
   pub root_stands : SaidStands d (root_stand d).value
   root_stands = said-stands (root_read d) root-read
@@ -235,23 +214,22 @@ module _ (d : List ℕ) where
     unfolding pointed_at
     pointed-stands t body = go (ltb (pointer body) (body + offset_size v.kind)) (ltb (end_of v) (pointer body))
       where
-        go : (a b : Bool) → ReadStands d (cond a (read.Refused 6) (cond b (read.Refused 6) (read_at d t (pointer body) (end_of v))))
+        go : (a b : Bool) → ReadStands d (cond a (Err refusal.Pointer) (cond b (Err refusal.Pointer) (read_at d t (pointer body) (end_of v))))
         go true b = tt
         go false true = tt
         go false false = read-stands t (pointer body) (end_of v)
 
-    entry-by : (y : TypeOf) (body : ℕ) → ReadStands d (entry_of d v y body)
+    entry-by : (body : ℕ) (t : JsonbType) → ReadStands d (typed_entry d v t body)
     unfolding typed_entry
-    entry-by (type-of.Known t) body = go (is_inlined t v.kind.large)
+    entry-by body t = go (is_inlined t v.kind.large)
       where
         go : (b : Bool) → ReadStands d (cond b (read_at d t body (body + offset_size v.kind)) (pointed_at d v t body))
         go true = read-stands t body (body + offset_size v.kind)
         go false = pointed-stands t body
-    entry-by (type-of.Refused n) body = tt
 
     entry-stands : (i : ℕ) → ReadStands d (entry_at d v i)
     unfolding entry_at
-    entry-stands i = entry-by (type_of (get_or d (place_at v i) 0)) (place_at v i + 1)
+    entry-stands i = then-stands (type_of (get_or d (place_at v i) 0)) _ (entry-by (place_at v i + 1))
 
     pub elem-stands : (i : ℕ) → SaidStands d (elem_at d v i)
     unfolding elem_at gated
@@ -264,7 +242,7 @@ module _ (d : List ℕ) where
         go false true false = said-stands (entry_at d v i) (entry-stands i)
 
 -- ---- so a container that is found is whole
-pub root-whole : (d : List ℕ) (v : View) → root_read d ≡ read.Value (value.Container v) → Stands d v
+pub root-whole : (d : List ℕ) (v : View) → root_read d ≡ Ok (value.Container v) → Stands d v
 root-whole d v e = subst (ReadStands d) e (root-read d)
 
 pub elem-whole : (d : List ℕ) (v w : View) (i : ℕ) → elem_at d v i ≡ says (value.Container w) → Stands d w
@@ -272,12 +250,12 @@ elem-whole d v w i e = subst (SaidStands d) e (elem-stands d v i)
 
 -- ---- in a whole container, what the walk reads is what elements and keys are
 module _ (d : List ℕ) (v : View) (w : Stands d v) (i : ℕ) (h : i < v.count) where
-  opens : gate_of d v true i ≡ Open
+  opens : gate_of d v true i ≡ Ok true
   unfolding gate_of
   opens = rw (le-ltb 16777216 (length d) w.short, w.whole, lt-leb v.count i h)
 
   is_whole : Whole d v i
-  is_whole = open-whole d v true i refl opens
+  is_whole = open-whole d v true i opens
 
   gate-passed : {A : Type 0} (x : Said A) → gated d v true i x ≡ x
   unfolding gated
@@ -287,12 +265,12 @@ module _ (d : List ℕ) (v : View) (w : Stands d v) (i : ℕ) (h : i < v.count) 
   unfolding elem_at
   value_same = ap read_said (whole-entry d v i is_whole) ∙ sym (gate-passed (read_said (entry_at d v i)))
 
-  key-same : cond v.kind.object (part_said (key_read d v i)) (says no_key) ≡ cond v.kind.object (key_at d v i) (says no_key)
+  key-same : cond v.kind.object (read_said (key_read d v i)) (says no_key) ≡ cond v.kind.object (key_at d v i) (says no_key)
   unfolding key_at
-  key-same = ap (λ (k : Said Span). cond v.kind.object k (says no_key)) (ap part_said (whole-key d v i is_whole)) ∙ go v.kind.object
+  key-same = ap (λ (k : Said Span). cond v.kind.object k (says no_key)) (ap read_said (whole-key d v i is_whole)) ∙ go v.kind.object
     where
-      go : (b : Bool) → cond b (part_said (key_entry_at d v i)) (says no_key) ≡ cond b (gated d v b i (part_said (key_entry_at d v i))) (says no_key)
-      go true = sym (gate-passed (part_said (key_entry_at d v i)))
+      go : (b : Bool) → cond b (read_said (key_entry_at d v i)) (says no_key) ≡ cond b (gated d v b i (read_said (key_entry_at d v i))) (says no_key)
+      go true = sym (gate-passed (read_said (key_entry_at d v i)))
       go false = refl
 
   abbrev stand : Said Span → Said Value → Stand

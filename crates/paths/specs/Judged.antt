@@ -1,9 +1,7 @@
 -- What is said of one path that is not too long: its event, or its first fault with its number and place. The order is document 01's: the key 5, the key 9,
 -- the value, a string 9. The place of a 9 is the byte at which the text breaks; of another fault it is the key entry's for a key's, else the value entry's.
 -- Assumes nothing.
-use Rattle.std.specs.Prelude.{ℕ, List}
-use Rattle.utf8.specs.declared.Utf8Check.{Utf8Check}
-use Rattle.utf8.specs.declared.Utf8Check.TheVariants.{Valid, Bad}
+use Rattle.std.specs.Prelude.{ℕ, List, Result, Ok, Err, ⊤}
 use Rattle.gate.specs.Said.{Said, says, nothing, refuses}
 use Rattle.value.specs.declared.Span.{Span}
 use Rattle.value.specs.declared.Value.{Value}
@@ -29,9 +27,9 @@ abbrev pub spot : ℕ → ℕ → ℕ → ℕ → Span → ℕ → Spot
 spot depth i m p k f = record { depth = depth; position = i; parent = m; place = p; key = k; from = f }
 
 -- a text that breaks is 9 where it breaks; after one that does not comes the rest
-abbrev pub text_then : Utf8Check → Judged → Judged
-text_then Valid j = j
-text_then (Bad p) j = bad 9 p
+abbrev pub text_then : Result ⊤ ℕ → Judged → Judged
+text_then (Ok u) j = j
+text_then (Err p) j = bad 9 p
 
 -- the value, then its text. Below a container's count there is no nothing
 abbrev pub value_judged : List ℕ → Spot → Said Value → Judged

@@ -6,7 +6,7 @@ use Rattle.std.specs.Prelude.{ℕ, zero, suc, ◌+◌, ◌-◌, cond, List}
 use Rattle.value.specs.declared.View.{View}
 use Rattle.value.specs.declared.Value.{Value}
 use Rattle.entry.specs.Entries.{place_at, key_place_at, entry_read, key_read, value_start}
-use Rattle.gate.specs.Said.{says, read_said, part_said}
+use Rattle.gate.specs.Said.{says, read_said}
 use Rattle.events.specs.Events.{no_key}
 use Rattle.events.specs.Listing.{Listing, end, fault, event}
 use Rattle.paths.specs.Judged.{Stand, judged, node}
@@ -36,7 +36,7 @@ entry_stand d v i =
     record {
       place = place_at v i;
       key_place = key_place_at v i;
-      key = cond v.kind.object (part_said (key_read d v i)) (says no_key);
+      key = cond v.kind.object (read_said (key_read d v i)) (says no_key);
       value = read_said (entry_read d v i);
       from = value_start d v i;
     }

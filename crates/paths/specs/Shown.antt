@@ -2,8 +2,7 @@
 -- list, and the rest of the list as it was.
 -- Assumes nothing.
 use Rattle.std.specs.Prelude.{ℕ, zero, suc, ◌+◌, ◌≡◌, List, [], ◌∷◌, ◌++◌, length, drop}
-use Rattle.events.specs.declared.Walked.{Walked}
-use Rattle.events.specs.declared.Walked.TheVariants.{Done, Stopped}
+use Rattle.events.specs.Walked.{Walked, Done, Stopped}
 use Rattle.events.specs.Events.{numbers}
 use Rattle.events.specs.Listing.{Listing, end, fault, event}
 use Rattle.events.specs.Lay.{room}

@@ -2,146 +2,104 @@
 // iteration are parted by semicolons.
 #![tactic(auto)]
 
-use jsonb::{Elements, Keys, Members, View};
-use std::io::Stdout;
-use words::{root_view, say, say_container, say_found, say_key, say_member};
+use jsonb::{Elements, Keys, Members};
+use output::{Answer, Output};
+use std::fmt::Display;
+use std::io;
+use std::io::Write;
+use value_words::Words;
+use words::Container;
 
-fn part(to: Stdout, at: u32) {
-    if 0 < at {
-        say(to, b" ; ");
-    }
-}
-
-// One step: the item, and where the next place is.
-fn element_step(to: Stdout, doc: &[u8], v: View, at: u32) -> u32 {
-    let place = Elements { view: v, at };
-    let step = place.next(doc);
-    let item = step.item;
-    let next = step.next;
-    part(to, at);
-    say_found(to, item);
-    next.at
-}
-
-fn key_step(to: Stdout, doc: &[u8], v: View, at: u32) -> u32 {
-    let place = Keys { view: v, at };
-    let step = place.next(doc);
-    let item = step.item;
-    let next = step.next;
-    part(to, at);
-    say_key(to, item);
-    next.at
-}
-
-fn member_step(to: Stdout, doc: &[u8], v: View, at: u32) -> u32 {
-    let place = Members { view: v, at };
-    let step = place.next(doc);
-    let item = step.item;
-    let next = step.next;
-    part(to, at);
-    say_member(to, item);
-    next.at
-}
-
-// What is stepped over.
-#[derive(Clone, Copy)]
-enum Over {
-    Elements,
-    Keys,
-    Members,
-}
-
-fn step(to: Stdout, doc: &[u8], v: View, over: Over, at: u32) -> u32 {
-    match over {
-        Over::Elements => element_step(to, doc, v, at),
-        Over::Keys => key_step(to, doc, v, at),
-        Over::Members => member_step(to, doc, v, at),
-    }
-}
-
-// All steps, until the place stays as it was; eight at most.
-fn steps(to: Stdout, doc: &[u8], v: View, over: Over) {
-    say_container(to, doc, v);
+// All steps, until the position stays as it was; eight at most. A step gives the item at a position and the position that follows.
+fn steps<W: Write, T: Display + Drop, F: Fn(Container<'_>, u32) -> (T, u32)>(
+    out: &mut W,
+    name: &str,
+    c: Container<'_>,
+    step: F,
+) -> io::Result<()>
+    requires { F.IsAlwaysCallable step }
+{
+    write!(out, "{name} of {c}: ")?;
     let mut at = 0;
-    for _ in 0..8usize {
-        let next = step(to, doc, v, over, at);
+    for _ in 0..8 {
+        let (item, next) = step(c, at);
+        let gap = if at == 0 { "" } else { " ; " };
+        write!(out, "{gap}{item}")?;
         if next == at {
             break;
         }
         at = next;
     }
-    say(to, b"\n");
+    writeln!(out)
 }
 
-fn elements(to: Stdout, doc: &[u8], v: View) {
-    say(to, b"elements");
-    steps(to, doc, v, Over::Elements);
+fn elements<W: Write>(out: &mut W, c: Container<'_>) -> io::Result<()> {
+    steps(out, "elements", c, |c, at| {
+        let step = Elements { view: c.view, at }.next(c.doc);
+        (Answer(step.item.map(Words)), step.next.at)
+    })
 }
 
-fn keys(to: Stdout, doc: &[u8], v: View) {
-    say(to, b"keys");
-    steps(to, doc, v, Over::Keys);
+fn keys<W: Write>(out: &mut W, c: Container<'_>) -> io::Result<()> {
+    steps(out, "keys", c, |c, at| {
+        let step = Keys { view: c.view, at }.next(c.doc);
+        (Answer(step.item.map(Words)), step.next.at)
+    })
 }
 
-fn members(to: Stdout, doc: &[u8], v: View) {
-    say(to, b"members");
-    steps(to, doc, v, Over::Members);
+fn members<W: Write>(out: &mut W, c: Container<'_>) -> io::Result<()> {
+    steps(out, "members", c, |c, at| {
+        let step = Members { view: c.view, at }.next(c.doc);
+        (Answer(step.item.map(Words)), step.next.at)
+    })
 }
 
 // An array of true and -2, and one whose second of three elements is no literal.
-fn element_examples(to: Stdout) {
-    let doc = [
-        0x02, 0x02, 0x00, 0x0A, 0x00, 0x04, 0x01, 0x00, 0x05, 0xFE, 0xFF,
+fn element_examples<W: Write>(out: &mut W) -> io::Result<()> {
+    let docs = [
+        &b"\x02\x02\x00\x0A\x00\x04\x01\x00\x05\xFE\xFF"[..],
+        b"\x02\x03\x00\x0D\x00\x04\x01\x00\x04\x03\x00\x05\xFE\xFF",
     ];
-    elements(to, &doc, root_view(&doc));
-    let faulty = [
-        0x02, 0x03, 0x00, 0x0D, 0x00, 0x04, 0x01, 0x00, 0x04, 0x03, 0x00, 0x05, 0xFE, 0xFF,
-    ];
-    elements(to, &faulty, root_view(&faulty));
+    for doc in docs {
+        elements(out, Container::root(doc))?;
+    }
+    Ok(())
 }
 
-// An object whose member a is Zoë.
-fn member_examples(to: Stdout) {
-    let doc = [
-        0x00, 0x01, 0x00, 0x11, 0x00, 0x0B, 0x00, 0x01, 0x00, 0x0C, 0x0C, 0x00, 0x61, 0x04, 0x5A,
-        0x6F, 0xC3, 0xAB,
+// An object whose member a is Zoë; and one of three members, of which the second has its key's offset in the header and a value that is no literal: the key's
+// fault is told.
+fn member_examples<W: Write>(out: &mut W) -> io::Result<()> {
+    let docs = [
+        &b"\x00\x01\x00\x11\x00\x0B\x00\x01\x00\x0C\x0C\x00\x61\x04\x5A\x6F\xC3\xAB"[..],
+        b"\x00\x03\x00\x1C\x00\x19\x00\x01\x00\x18\x00\x01\x00\x1B\x00\x01\x00\x04\x00\x00\x04\x03\x00\x05\xFE\xFF\x61\x62\x63",
     ];
-    keys(to, &doc, root_view(&doc));
-    members(to, &doc, root_view(&doc));
-}
-
-// Three members, of which the second has its key's offset in the header and a value that is no literal: the key's fault is told.
-fn faulty_member_examples(to: Stdout) {
-    let doc = [
-        0x00, 0x03, 0x00, 0x1C, 0x00, 0x19, 0x00, 0x01, 0x00, 0x18, 0x00, 0x01, 0x00, 0x1B, 0x00,
-        0x01, 0x00, 0x04, 0x00, 0x00, 0x04, 0x03, 0x00, 0x05, 0xFE, 0xFF, 0x61, 0x62, 0x63,
-    ];
-    keys(to, &doc, root_view(&doc));
-    members(to, &doc, root_view(&doc));
+    for doc in docs {
+        keys(out, Container::root(doc))?;
+        members(out, Container::root(doc))?;
+    }
+    Ok(())
 }
 
 // The wrong kind is asked, and a view with another count.
-fn refused_examples(to: Stdout) {
-    let object = [0x00, 0x00, 0x00, 0x04, 0x00];
-    elements(to, &object, root_view(&object));
-    let array = [0x02, 0x01, 0x00, 0x07, 0x00, 0x04, 0x01, 0x00];
-    let v = root_view(&array);
-    keys(to, &array, v);
-    members(to, &array, v);
-    let k = v.kind;
-    let other = View {
-        start: v.start,
-        size: v.size,
-        count: 0,
-        kind: k,
-    };
-    elements(to, &array, other);
+fn refused_examples<W: Write>(out: &mut W) -> io::Result<()> {
+    let object = b"\x00\x00\x00\x04\x00";
+    elements(out, Container::root(object))?;
+    let doc = b"\x02\x01\x00\x07\x00\x04\x01\x00";
+    let array = Container::root(doc);
+    keys(out, array)?;
+    members(out, array)?;
+    elements(out, array.with_count(0))
 }
 
+fn examples(out: &mut Output<'_>) -> io::Result<()> {
+    element_examples(out)?;
+    member_examples(out)?;
+    refused_examples(out)?;
+    out.flush()
+}
+
+// A failed write ends it, and is not told.
 fn main(rt: HostRuntime) {
-    let to = rt.stdout();
-    element_examples(to);
-    member_examples(to);
-    faulty_member_examples(to);
-    refused_examples(to);
+    let mut room = [0u8; 4096];
+    let _ = examples(&mut Output::new(rt.stdout(), &mut room));
 }

@@ -1,86 +1,73 @@
-// The answers to questions about dates and times. The numbers are those of the request, in their order.
+// The answers to questions about dates and times.
 #![tactic(auto)]
 
-use jsonb::{Read, Value};
-use opaque_time::TimePart;
-use output::{FILL, Output, is_filled, put, put_front_hex, put_kept, put_refused, put_what};
-use time::{MysqlTime, TimeType, TimeTypeOf, TimeWritten};
-use time_words::put_read;
+use asked::{Asked, Fault};
+use output::{Answer, Hex, Or, Written, kept};
+use refusal::Refusal;
+use std::io::Write;
+use time::{MysqlTime, TimeType};
+use time_words::TimeWords;
 
-// ---- bytes
+fn time_type(asked: &mut Asked<'_>) -> Result<TimeType, Fault> {
+    TimeType::of(asked.number()?).ok_or(Fault::NoRequest)
+}
 
 // The type.
-pub fn put_time(out: &mut Output<'_>, at: usize, n: [u32; 24], bytes: &[u8]) -> usize {
-    match TimeType::of(n[0]) {
-        TimeTypeOf::Known(kind) => put_read(out, at, MysqlTime::read_packed(bytes, kind)),
-        TimeTypeOf::Other => put_what(out, at),
+pub fn packed<W: Write>(out: &mut W, asked: &mut Asked<'_>) -> Result<(), Fault> {
+    let kind = time_type(asked)?;
+    let read = MysqlTime::read_packed(asked.last_bytes()?, kind);
+    write!(out, "{}", Answer(read.map(TimeWords)))?;
+    Ok(())
+}
+
+// The date or time that a document's root is.
+fn root_time(doc: &[u8]) -> Result<Option<MysqlTime>, Refusal> {
+    match opaque_time::time_part(jsonb::deserialize(doc)?) {
+        Some(part) => Ok(Some(opaque_time::opaque_time(doc, part.part, part.kind)?)),
+        None => Ok(None),
     }
 }
 
-// ---- a document that is a date or a time
-
-fn put_part(out: &mut Output<'_>, at: usize, doc: &[u8], x: Value) -> usize {
-    match opaque_time::time_part(x) {
-        TimePart::Bytes(kind, part) => {
-            put_read(out, at, opaque_time::opaque_time(doc, part, kind))
-        }
-        TimePart::Nothing => put(out, at, b"other"),
-    }
-}
-
-pub fn put_opaque(out: &mut Output<'_>, at: usize, doc: &[u8]) -> usize {
-    match jsonb::deserialize(doc) {
-        Read::Value(x) => put_part(out, at, doc, x),
-        Read::Refused(r) => put_refused(out, at, r),
-    }
-}
-
-// ---- fields
-
-fn write_in(t: MysqlTime, room: &mut [u8], n: usize) -> TimeWritten {
-    if n <= room.len() {
-        return t.write_packed(&mut room[..n]);
-    }
-    t.write_packed(room)
-}
-
-// The result of the writing, in so many bytes.
-fn put_written(out: &mut Output<'_>, at: usize, t: MysqlTime, n: usize) -> usize {
-    let mut room = [FILL; 128];
-    match write_in(t, &mut room, n) {
-        TimeWritten::Written => {
-            let next = put_front_hex(out, at, &room, 8);
-            put_kept(out, next, is_filled(&room, 8))
-        }
-        TimeWritten::Refused(r) => {
-            let next = put_refused(out, at, r);
-            put_kept(out, next, is_filled(&room, 0))
-        }
-    }
-}
-
-fn time_of(n: [u32; 24], kind: TimeType) -> MysqlTime {
-    MysqlTime {
-        year: n[1],
-        month: n[2],
-        day: n[3],
-        hour: n[4],
-        minute: n[5],
-        second: n[6],
-        second_part: n[7],
-        neg: n[8] == 1,
-        time_type: kind,
-    }
+pub fn root<W: Write>(out: &mut W, asked: &mut Asked<'_>) -> Result<(), Fault> {
+    let root = root_time(asked.last_bytes()?);
+    write!(
+        out,
+        "{}",
+        Answer(root.map(|t| Or(t.map(TimeWords), "other")))
+    )?;
+    Ok(())
 }
 
 // The type, the fields, the sign and the room.
-pub fn put_record(out: &mut Output<'_>, at: usize, n: [u32; 24]) -> usize {
-    let room = n[9] as usize;
-    if 1 < n[8] || 128 < room {
-        return put_what(out, at);
-    }
-    match TimeType::of(n[0]) {
-        TimeTypeOf::Known(kind) => put_written(out, at, time_of(n, kind), room),
-        TimeTypeOf::Other => put_what(out, at),
-    }
+pub fn record<W: Write>(out: &mut W, asked: &mut Asked<'_>) -> Result<(), Fault> {
+    let time_type = time_type(asked)?;
+    let year = asked.number()?;
+    let month = asked.number()?;
+    let day = asked.number()?;
+    let hour = asked.number()?;
+    let minute = asked.number()?;
+    let second = asked.number()?;
+    let second_part = asked.number()?;
+    let neg = asked.flag()?;
+    let room = asked.number_to(output::ROOM as u32)? as usize;
+    asked.end()?;
+    let t = MysqlTime {
+        year,
+        month,
+        day,
+        hour,
+        minute,
+        second,
+        second_part,
+        neg,
+        time_type,
+    };
+    let written = Written::by(room, |room| t.write_packed(room).map(|()| 8));
+    write!(
+        out,
+        "{} ; {}",
+        Answer(written.bytes().map(Hex)),
+        kept(written.is_kept())
+    )?;
+    Ok(())
 }

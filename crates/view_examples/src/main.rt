@@ -2,136 +2,115 @@
 // start, its count and its size.
 #![tactic(auto)]
 
-use jsonb::View;
-use std::io::Stdout;
-use words::{
-    root_view, say, say_container, say_count, say_document, say_found, say_key, say_number,
-    say_read,
-};
+use output::{Answer, HexWord, Output};
+use std::io;
+use std::io::Write;
+use value_words::Words;
+use words::Container;
 
-fn root(to: Stdout, doc: &[u8]) {
-    say(to, b"root ");
-    say_document(to, doc);
-    say_read(to, jsonb::deserialize(doc));
-    say(to, b"\n");
+fn root<W: Write>(out: &mut W, doc: &[u8]) -> io::Result<()> {
+    let answer = jsonb::deserialize(doc).map(Words);
+    writeln!(out, "root {}: {}", HexWord(doc), Answer(answer))
 }
 
-fn count(to: Stdout, doc: &[u8], v: View) {
-    say(to, b"count");
-    say_container(to, doc, v);
-    say_count(to, jsonb::element_count(doc, v));
-    say(to, b"\n");
+fn count<W: Write>(out: &mut W, c: Container<'_>) -> io::Result<()> {
+    let answer = jsonb::element_count(c.doc, c.view);
+    writeln!(out, "count of {c}: {}", Answer(answer))
 }
 
-fn element(to: Stdout, doc: &[u8], v: View, pos: u32) {
-    say(to, b"element ");
-    say_number(to, pos as u64);
-    say_container(to, doc, v);
-    say_found(to, jsonb::elem_at(doc, v, pos));
-    say(to, b"\n");
+fn element<W: Write>(out: &mut W, c: Container<'_>, pos: u32) -> io::Result<()> {
+    let answer = jsonb::elem_at(c.doc, c.view, pos).map(Words);
+    writeln!(out, "element {pos} of {c}: {}", Answer(answer))
 }
 
-fn key(to: Stdout, doc: &[u8], v: View, pos: u32) {
-    say(to, b"key ");
-    say_number(to, pos as u64);
-    say_container(to, doc, v);
-    say_key(to, jsonb::key_at(doc, v, pos));
-    say(to, b"\n");
+fn key<W: Write>(out: &mut W, c: Container<'_>, pos: u32) -> io::Result<()> {
+    let answer = jsonb::key_at(c.doc, c.view, pos).map(Words);
+    writeln!(out, "key {pos} of {c}: {}", Answer(answer))
 }
 
 // An array of true and -2. Its view with another count, and its keys, which it has not.
-fn array_examples(to: Stdout) {
-    let doc = [
-        0x02, 0x02, 0x00, 0x0A, 0x00, 0x04, 0x01, 0x00, 0x05, 0xFE, 0xFF,
-    ];
-    let v = root_view(&doc);
-    root(to, &doc);
-    element(to, &doc, v, 0);
-    element(to, &doc, v, 1);
-    element(to, &doc, v, 2);
-    count(to, &doc, v);
-    let k = v.kind;
-    let other = View {
-        start: v.start,
-        size: v.size,
-        count: 1,
-        kind: k,
-    };
-    element(to, &doc, other, 0);
-    count(to, &doc, other);
-    key(to, &doc, v, 0);
+fn array_examples<W: Write>(out: &mut W) -> io::Result<()> {
+    let doc = b"\x02\x02\x00\x0A\x00\x04\x01\x00\x05\xFE\xFF";
+    let array = Container::root(doc);
+    root(out, doc)?;
+    for pos in 0..3 {
+        element(out, array, pos)?;
+    }
+    count(out, array)?;
+    let other = array.with_count(1);
+    element(out, other, 0)?;
+    count(out, other)?;
+    key(out, array, 0)
 }
 
 // An object whose member a is Zoë; then the key's offset is before the header's end.
-fn object_examples(to: Stdout) {
-    let mut doc = [
-        0x00, 0x01, 0x00, 0x11, 0x00, 0x0B, 0x00, 0x01, 0x00, 0x0C, 0x0C, 0x00, 0x61, 0x04, 0x5A,
-        0x6F, 0xC3, 0xAB,
-    ];
-    let v = root_view(&doc);
-    root(to, &doc);
-    key(to, &doc, v, 0);
-    element(to, &doc, v, 0);
-    doc[5] = 0x0A;
-    key(to, &doc, v, 0);
+fn object_examples<W: Write>(out: &mut W) -> io::Result<()> {
+    let doc = b"\x00\x01\x00\x11\x00\x0B\x00\x01\x00\x0C\x0C\x00\x61\x04\x5A\x6F\xC3\xAB";
+    let object = Container::root(doc);
+    root(out, doc)?;
+    key(out, object, 0)?;
+    element(out, object, 0)?;
+    let mut faulty = *doc;
+    faulty[5] = 0x0A;
+    key(out, object.in_doc(&faulty), 0)
 }
 
 // A string that begins among later entries; then its offset is in its own entry.
-fn string_examples(to: Stdout) {
-    let mut doc = [
-        0x02, 0x02, 0x00, 0x0C, 0x00, 0x0C, 0x07, 0x00, 0x04, 0x01, 0x00, 0x41, 0x42,
-    ];
-    let v = root_view(&doc);
-    element(to, &doc, v, 0);
-    element(to, &doc, v, 1);
-    doc[6] = 0x06;
-    element(to, &doc, v, 0);
+fn string_examples<W: Write>(out: &mut W) -> io::Result<()> {
+    let doc = b"\x02\x02\x00\x0C\x00\x0C\x07\x00\x04\x01\x00\x41\x42";
+    let array = Container::root(doc);
+    element(out, array, 0)?;
+    element(out, array, 1)?;
+    let mut faulty = *doc;
+    faulty[6] = 0x06;
+    element(out, array.in_doc(&faulty), 0)
 }
 
 // An Int32 stands at its offset in a small array, and in its entry in a large one.
-fn number_examples(to: Stdout) {
-    let small = [
-        0x02, 0x01, 0x00, 0x0B, 0x00, 0x07, 0x07, 0x00, 0xFF, 0xFF, 0xFF, 0xFF,
+fn number_examples<W: Write>(out: &mut W) -> io::Result<()> {
+    let small = b"\x02\x01\x00\x0B\x00\x07\x07\x00\xFF\xFF\xFF\xFF";
+    let large = b"\x03\x01\x00\x00\x00\x0D\x00\x00\x00\x07\xFF\xFF\xFF\xFF";
+    element(out, Container::root(small), 0)?;
+    element(out, Container::root(large), 0)
+}
+
+// Documents whose roots are asked for.
+fn root_examples<W: Write>(out: &mut W) -> io::Result<()> {
+    let docs = [
+        // The empty array; with a size past the end, with a count that the size does not hold, and with no size.
+        &b"\x02\x00\x00\x04\x00"[..],
+        b"\x02\x00\x00\x05\x00",
+        b"\x02\x01\x00\x04\x00",
+        b"\x02\x00\x00",
+        // A literal, an unknown one, an unknown type, and the empty document.
+        b"\x04\x01",
+        b"\x04\x03",
+        b"\x0D",
+        b"",
+        // The largest UInt16, the least Int64, 1.5, a NaN, and an opaque decimal.
+        b"\x06\xFF\xFF",
+        b"\x09\x00\x00\x00\x00\x00\x00\x00\x80",
+        b"\x0B\x00\x00\x00\x00\x00\x00\xF8\x3F",
+        b"\x0B\x01\x00\x00\x00\x00\x00\xF8\x7F",
+        b"\x0F\xF6\x04\x04\x02\x73\xDD",
     ];
-    element(to, &small, root_view(&small), 0);
-    let large = [
-        0x03, 0x01, 0x00, 0x00, 0x00, 0x0D, 0x00, 0x00, 0x00, 0x07, 0xFF, 0xFF, 0xFF, 0xFF,
-    ];
-    element(to, &large, root_view(&large), 0);
+    for doc in docs {
+        root(out, doc)?;
+    }
+    Ok(())
 }
 
-// The empty array; with a size past the end, with a count that the size does not hold, and with no size.
-fn header_examples(to: Stdout) {
-    root(to, &[0x02, 0x00, 0x00, 0x04, 0x00]);
-    root(to, &[0x02, 0x00, 0x00, 0x05, 0x00]);
-    root(to, &[0x02, 0x01, 0x00, 0x04, 0x00]);
-    root(to, &[0x02, 0x00, 0x00]);
+fn examples(out: &mut Output<'_>) -> io::Result<()> {
+    array_examples(out)?;
+    object_examples(out)?;
+    string_examples(out)?;
+    number_examples(out)?;
+    root_examples(out)?;
+    out.flush()
 }
 
-// A literal, an unknown one, an unknown type, and the empty document.
-fn literal_examples(to: Stdout) {
-    root(to, &[0x04, 0x01]);
-    root(to, &[0x04, 0x03]);
-    root(to, &[0x0D]);
-    root(to, &[]);
-}
-
-// The largest UInt16, the least Int64, 1.5, a NaN, and an opaque decimal.
-fn scalar_examples(to: Stdout) {
-    root(to, &[0x06, 0xFF, 0xFF]);
-    root(to, &[0x09, 0x00, 0x00, 0x00, 0x00, 0x00, 0x00, 0x00, 0x80]);
-    root(to, &[0x0B, 0x00, 0x00, 0x00, 0x00, 0x00, 0x00, 0xF8, 0x3F]);
-    root(to, &[0x0B, 0x01, 0x00, 0x00, 0x00, 0x00, 0x00, 0xF8, 0x7F]);
-    root(to, &[0x0F, 0xF6, 0x04, 0x04, 0x02, 0x73, 0xDD]);
-}
-
+// A failed write ends it, and is not told.
 fn main(rt: HostRuntime) {
-    let to = rt.stdout();
-    array_examples(to);
-    object_examples(to);
-    string_examples(to);
-    number_examples(to);
-    header_examples(to);
-    literal_examples(to);
-    scalar_examples(to);
+    let mut room = [0u8; 4096];
+    let _ = examples(&mut Output::new(rt.stdout(), &mut room));
 }

@@ -1,69 +1,33 @@
-// The answers to questions about the walk. The numbers are those of the request, in their order.
+// The answer to the question about the walk.
 #![tactic(auto)]
 
-use output::{Output, put, put_next, put_number, put_refused, put_what};
-use walk::Walked;
+use asked::{Asked, Fault};
+use std::io::Write;
+use walk::Stopped;
 
-fn wide(n: u32) -> u64 {
-    n as u64
-}
+// The greatest room for events.
+const EVENTS: u32 = 1820;
 
-// A number of an event: the first of them after a slash.
-fn put_cell(out: &mut Output<'_>, at: usize, i: usize, n: u64) -> usize {
-    if i % events::WIDE == 0 {
-        let next = put(out, at, b" /");
-        return put_next(out, next, n);
-    }
-    put_next(out, at, n)
-}
-
-// The first events and their count.
-fn put_events(out: &mut Output<'_>, at: usize, numbers: &[u32], count: usize) -> usize {
-    let mut next = put_number(out, at, count as u64);
-    if count <= numbers.len() / events::WIDE {
-        let end = events::WIDE * count;
-        for i in 0..end {
-            next = put_cell(out, next, i, wide(numbers[i]));
-        }
-    }
-    next
-}
-
-fn put_stopped(out: &mut Output<'_>, at: usize, number: u8, place: usize) -> usize {
-    let next = put(out, at, b" ");
-    let after = put_refused(out, next, number);
-    let place_at = put(out, after, b" at ");
-    put_number(out, place_at, place as u64)
-}
-
-fn put_walked(out: &mut Output<'_>, at: usize, numbers: &[u32], w: Walked) -> usize {
-    match w {
-        Walked::Done { count } => put_events(out, at, numbers, count),
-        Walked::Stopped {
-            number,
-            place,
-            count,
-        } => {
-            let next = put_events(out, at, numbers, count);
-            put_stopped(out, next, number, place)
-        }
-    }
-}
-
-// With room for so many events, at most 1,820.
-pub fn put_walk(out: &mut Output<'_>, at: usize, n: [u32; 24], doc: &[u8]) -> usize {
-    let room = n[0] as usize;
-    if 1820 < room {
-        return put_what(out, at);
-    }
+// With room for so many events: their count, the numbers of each, and what stopped the walk.
+pub fn walk<W: Write>(out: &mut W, asked: &mut Asked<'_>) -> Result<(), Fault> {
+    let room = events::WIDE * asked.number_to(EVENTS)? as usize;
+    let doc = asked.last_bytes()?;
     let mut numbers = [0u32; 16384];
-    let w = walk_in(doc, &mut numbers, events::WIDE * room);
-    put_walked(out, at, &numbers, w)
-}
-
-fn walk_in(doc: &[u8], numbers: &mut [u32], end: usize) -> Walked {
-    if end <= numbers.len() {
-        return walk::walk(doc, &mut numbers[..end]);
+    let lent = &mut numbers[..room.min(16384)];
+    let walked = walk::walk(doc, lent);
+    let count = match walked {
+        Ok(count) => count,
+        Err(stopped) => stopped.count,
+    };
+    write!(out, "{count}")?;
+    for event in numbers.chunks_exact(events::WIDE).take(count) {
+        write!(out, " /")?;
+        for n in event {
+            write!(out, " {n}")?;
+        }
     }
-    walk::walk(doc, numbers)
+    if let Err(Stopped { refusal, place, .. }) = walked {
+        write!(out, " refused {} at {place}", refusal.number())?;
+    }
+    Ok(())
 }
