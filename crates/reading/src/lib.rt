@@ -1,12 +1,13 @@
 // The packed form of a decimal, read to its groups: the integral rest, the whole groups of both sides, the rest of the fraction.
 #![tactic(auto)]
 
-ghost use Rattle.std.specs.Prelude.{◌≡◌, ◌+◌, ◌≤◌, length, take, drop};
+ghost use Rattle.std.specs.Prelude.{◌≡◌, ◌+◌, ◌*◌, ◌^◌, ◌<◌, ◌≤◌, length, take, drop};
 ghost use Rattle.groups.specs.Numbers.{number};
 ghost use Rattle.groups.specs.Layout.{size, form_of};
 ghost use Rattle.groups.specs.Sides.{sides_of};
 ghost use Rattle.groups.specs.Packed.{digits_in};
 ghost use Rattle.groups.specs.Read.{groups_in, read_groups};
+ghost use Rattle.reading.specs.Course.{begins};
 
 use groups::Sides;
 use refusal::Refusal;
@@ -23,7 +24,22 @@ fn number_of(bytes: &[u8]) -> u32
     x
 }
 
-// The number of a group of w bytes: the first bit of the decimal, which weighs `half`, is flipped, and then all bits inverted or not.
+// A number of bytes with its first bit, which weighs `half`, flipped if it begins the decimal.
+#[tactic(auto, unfolding(crate::specs::Course::begins, crate::specs::Course::flip_by))]
+fn begun(x: u32, half: u32, at: usize) -> u32
+    requires { (x < 2 * half) × (2 * half ≤ 2 ^ 32) }
+    ensures { (result ≡ begins at half x) × (result < 2 * half) }
+{
+    if at != 0 {
+        x
+    } else if x < half {
+        x + half
+    } else {
+        x - half
+    }
+}
+
+// The number of a group of w bytes, of which `top` is the greatest: its first bit flipped or not, and then all bits inverted or not.
 fn part_at(bytes: &[u8], at: usize, w: usize, inverted: bool) -> u32
     requires { (w ≤ 4) × (at + w ≤ length bytes.now) }
     ensures { result ≡ number 256 (take w (drop at (digits_in (form_of inverted) bytes.now))) }
@@ -31,20 +47,9 @@ fn part_at(bytes: &[u8], at: usize, w: usize, inverted: bool) -> u32
     if w == 0 {
         return 0;
     }
-    let half = 1u32 << (8 * w - 1);
-    let read = number_of(&bytes[at..at + w]);
-    let shown = if at != 0 {
-        read
-    } else if read < half {
-        read + half
-    } else {
-        read - half
-    };
-    if inverted {
-        half - 1 + half - shown
-    } else {
-        shown
-    }
+    let top = u32::MAX >> (32 - 8 * w);
+    let x = begun(number_of(&bytes[at..at + w]), top / 2 + 1, at);
+    if inverted { top - x } else { x }
 }
 
 // The nine groups of bytes that are all there; those past the last are 0.
@@ -74,7 +79,8 @@ fn read_groups(
         at += 4;
     }
     // A group of nine digits holds the last digits of the fraction; it is below 10 to the 9 exactly if they are below 10 to their count.
-    let tail = u64::from(part_at(bytes, at, s.back, inverted)) * u64::from(groups::power(9 - s.tail));
+    let tail = u64::from(part_at(bytes, at, s.back, inverted))
+        * u64::from(groups::power(9 - s.tail));
     if 1000000000 <= tail {
         return Err(Refusal::Group);
     }
