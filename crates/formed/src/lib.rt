@@ -2,7 +2,7 @@
 // no sign on zero; and the sign of a decimal that is read.
 #![tactic(auto)]
 
-ghost use Rattle.std.specs.Prelude.{◌≡◌, ◌+◌, ◌≤◌, true, false, get_or, MatchResult};
+ghost use Rattle.std.specs.Prelude.{◌≡◌, ◌+◌, ◌≤◌, true, false, length, get_or, MatchResult};
 ghost use Rattle.refusal.specs.declared.Refusal.TheVariants as refusal;
 ghost use Rattle.groups.specs.Numbers.{all};
 ghost use Rattle.groups.specs.Course.{capped_at};
@@ -80,11 +80,17 @@ pub fn well_formed(parts: &Parts) -> bool
     well_groups(parts)
 }
 
+// That an array has nine elements is known of an argument, and not of a field behind a reference: so this says it.
+fn nine(groups: &[u32; 9])
+    ensures { length groups.now ≡ 9 }
+{}
+
 // The parts of a decimal.
 #[derive(Clone, Copy)]
 pub struct Formed<'a> {
     pub parts: &'a Parts,
     ghost well: { well_formed parts.now.negative parts.now.intg parts.now.frac parts.now.groups ≡ true },
+    ghost nine: { length parts.now.groups ≡ 9 },
 }
 
 impl<'a> Formed<'a> {
@@ -95,6 +101,7 @@ impl<'a> Formed<'a> {
         if !well_formed(parts) {
             return Err(Refusal::Record);
         }
+        nine(&parts.groups);
         Ok(Formed { parts })
     }
 }

@@ -1,12 +1,8 @@
 -- What private functions do on the way; no public promise rests on it.
 -- Assumes nothing.
-use Rattle.std.specs.Prelude.{ℕ, ◌-◌, ◌≡◌, cond, List, ◌++◌, ltb, length, replicate}
-use Rattle.groups.specs.Numbers.{Below}
-use Rattle.std.specs.Ordering.{Ordering, Less, Equal, Greater}
-
--- nine groups of nine digits
-abbrev pub NineGroups : List ℕ → Type 0
-NineGroups gs = (length gs ≡ 9) × Below 1000000000 gs
+use Rattle.std.specs.Prelude.{ℕ, ◌-◌, cond, List, ◌++◌, ltb, replicate}
+use Rattle.std.specs.declared.cmp.Ordering.{Ordering}
+use Rattle.std.specs.declared.cmp.Ordering.TheVariants.{Less, Equal, Greater}
 
 -- nine groups, n of them before the point, among seventeen places, eight of them before the point
 unfoldable pub placed : ℕ → List ℕ → List ℕ

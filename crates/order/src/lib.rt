@@ -14,7 +14,7 @@ use std::cmp::Ordering;
 
 // The groups at their places among seventeen, of which eight are before the point.
 fn placed(d: Formed<'_>) -> [u32; 17]
-    ensures { result ≡ placed (groups_of d.parts.now.intg) d.parts.now.groups }
+    ensures { result ≡ placed (groups_of d.entry.parts.now.intg) d.entry.parts.now.groups }
 {
     let mut places = [0; 17];
     let first = 8 - d.parts.intg.div_ceil(9);
@@ -25,7 +25,7 @@ fn placed(d: Formed<'_>) -> [u32; 17]
 // The order of the magnitudes of two decimals: the first group where they differ decides.
 fn order_of(a: Formed<'_>, b: Formed<'_>) -> Ordering
     ensures { result
-        ≡ order_n (magnitude (groups_of a.parts.now.intg) a.parts.now.groups) (magnitude (groups_of b.parts.now.intg) b.parts.now.groups) }
+        ≡ order_n (magnitude (groups_of a.entry.parts.now.intg) a.entry.parts.now.groups) (magnitude (groups_of b.entry.parts.now.intg) b.entry.parts.now.groups) }
 {
     if a.parts.intg.div_ceil(9) == b.parts.intg.div_ceil(9) {
         a.parts.groups.cmp(&b.parts.groups)
@@ -36,7 +36,7 @@ fn order_of(a: Formed<'_>, b: Formed<'_>) -> Ordering
 
 // The order of the values of two decimals.
 fn compare_values(a: Formed<'_>, b: Formed<'_>) -> Ordering
-    ensures { result ≡ order_z (value a.parts.now) (value b.parts.now) }
+    ensures { result ≡ order_z (value a.entry.parts.now) (value b.entry.parts.now) }
 {
     match (a.parts.negative, b.parts.negative) {
         (false, false) => order_of(a, b),
@@ -47,6 +47,7 @@ fn compare_values(a: Formed<'_>, b: Formed<'_>) -> Ordering
 }
 
 // The order of the values of two decimals, of their parts.
+#[tactic(auto, unfolding(crate::specs::Value::compare_told))]
 pub fn compare(a: &Parts, b: &Parts) -> Result<Ordering, Refusal>
     ensures { told result ≡ compare_told a.now b.now }
 {

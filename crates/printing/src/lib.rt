@@ -131,8 +131,8 @@ fn text_len(sign: bool, whole: usize, frac: usize) -> usize
 
 // Prints a decimal to the front of the output, and counts the characters. A refusal changes nothing.
 fn print_well(out: &mut [u8], d: Formed<'_>) -> Result<usize, Refusal>
-    ensures result_value { told result ≡ room_told (text_of d.parts.now.negative d.parts.now.intg d.parts.now.frac (digits_to Digits d.parts.now.intg d.parts.now.frac d.parts.now.groups 9)) out.old }
-    ensures out_after { out.new ≡ room_leaves (text_of d.parts.now.negative d.parts.now.intg d.parts.now.frac (digits_to Digits d.parts.now.intg d.parts.now.frac d.parts.now.groups 9)) out.old }
+    ensures result_value { told result ≡ room_told (text_of d.entry.parts.now.negative d.entry.parts.now.intg d.entry.parts.now.frac (digits_to Digits d.entry.parts.now.intg d.entry.parts.now.frac d.entry.parts.now.groups 9)) out.old }
+    ensures out_after { out.new ≡ room_leaves (text_of d.entry.parts.now.negative d.entry.parts.now.intg d.entry.parts.now.frac (digits_to Digits d.entry.parts.now.intg d.entry.parts.now.frac d.entry.parts.now.groups 9)) out.old }
 {
     let p = d.parts;
     let n = p.intg.div_ceil(9);

@@ -53,8 +53,8 @@ fn put_fours(
 
 // Writes all groups: the integral rest, the whole groups of both sides, the rest of the fraction.
 fn put_packed(out: &mut [u8], d: Formed<'_>, s: Sides)
-    requires { (s ≡ sides_of d.parts.now.intg d.parts.now.frac) × (size d.parts.now.intg d.parts.now.frac ≤ length out.old) }
-    ensures { out.new ≡ shaded d.parts.now.negative (digits_to Plain d.parts.now.intg d.parts.now.frac d.parts.now.groups 9) ++ drop (size d.parts.now.intg d.parts.now.frac) out.old }
+    requires { (s ≡ sides_of d.entry.parts.now.intg d.entry.parts.now.frac) × (size d.entry.parts.now.intg d.entry.parts.now.frac ≤ length out.old) }
+    ensures { out.new ≡ shaded d.entry.parts.now.negative (digits_to Plain d.entry.parts.now.intg d.entry.parts.now.frac d.entry.parts.now.groups 9) ++ drop (size d.entry.parts.now.intg d.entry.parts.now.frac) out.old }
 {
     let inverted = d.parts.negative;
     let gs = &d.parts.groups;
