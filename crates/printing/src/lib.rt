@@ -34,7 +34,7 @@ fn put_group(out: &mut [u8], at: usize, w: usize, x: u32)
 
 // Prints whole groups, from one place to another, from `at` on, and returns the place after them.
 fn put_nines(out: &mut [u8], at: usize, groups: &[u32; 9], from: usize, to: usize) -> usize
-    requires from_le_to { ((from ≤ to) × (to ≤ 9)) × (length groups.now ≡ 9) }
+    requires from_le_to { (from ≤ to) × (to ≤ 9) }
     requires from_in_bounds { at + 9 * (to - from) ≤ length out.old }
     ensures value { result ≡ at + 9 * (to - from) }
     ensures out_after { out.new ≡ take at out.old ++ (map show (nines groups.now from (to - from)) ++ drop result out.old) }
@@ -73,7 +73,7 @@ fn put_sign(out: &mut [u8], sign: bool) -> usize
 
 // Prints n integral groups from `at` on, the first of them w digits wide, and returns the place after them.
 fn put_whole(out: &mut [u8], at: usize, n: usize, w: usize, groups: &[u32; 9]) -> usize
-    requires n_bound { (n ≤ 9) × (length groups.now ≡ 9) }
+    requires n_bound { n ≤ 9 }
     requires w_in_bounds { at + whole_length n w ≤ length out.old }
     ensures value { result ≡ at + whole_length n w }
     ensures out_after { out.new ≡ take at out.old ++ (whole_text n w groups.now ++ drop result out.old) }
@@ -88,7 +88,7 @@ fn put_whole(out: &mut [u8], at: usize, n: usize, w: usize, groups: &[u32; 9]) -
 
 // Prints a fraction, whose groups begin at place n, from `at` on, and returns the place after it.
 fn put_fraction(out: &mut [u8], at: usize, n: usize, frac: usize, groups: &[u32; 9]) -> usize
-    requires frac_bound { ((n + (frac + 8) / 9 ≤ 9) × (frac ≤ 30)) × (length groups.now ≡ 9) }
+    requires frac_bound { (n + (frac + 8) / 9 ≤ 9) × (frac ≤ 30) }
     requires frac_in_bounds { at + fraction_length frac ≤ length out.old }
     ensures value { result ≡ at + fraction_length frac }
     ensures out_after { out.new ≡ take at out.old ++ (point_text n frac groups.now ++ drop result out.old) }
@@ -105,6 +105,7 @@ fn put_fraction(out: &mut [u8], at: usize, n: usize, frac: usize, groups: &[u32;
 }
 
 // How many characters n integral groups have.
+#[tactic(auto, unfolding(crate::specs::Course::whole_length))]
 fn whole_len(n: usize, w: usize) -> usize
     requires { (n ≤ 9) × (w ≤ 9) }
     ensures { (result ≡ whole_length n w) × (result ≤ 81) }
@@ -113,6 +114,7 @@ fn whole_len(n: usize, w: usize) -> usize
 }
 
 // How many characters a fraction has, its point among them.
+#[tactic(auto, unfolding(crate::specs::Course::fraction_length))]
 fn fraction_len(frac: usize) -> usize
     requires { frac ≤ 30 }
     ensures { (result ≡ fraction_length frac) × (result ≤ frac + 1) }
@@ -121,6 +123,7 @@ fn fraction_len(frac: usize) -> usize
 }
 
 // How many characters a text has whose integral digits have so many.
+#[tactic(auto, unfolding(crate::specs::Course::fraction_length))]
 fn text_len(sign: bool, whole: usize, frac: usize) -> usize
     requires { (whole ≤ 81) × (frac ≤ 30) }
     ensures { result ≡ length (sign_text sign) + (whole + fraction_length frac) }
@@ -147,6 +150,7 @@ fn print_well(out: &mut [u8], d: Formed<'_>) -> Result<usize, Refusal>
 }
 
 // Prints the groups of a decimal to the front of the output, and counts the characters. A refusal changes nothing.
+#[tactic(auto, unfolding(crate::specs::Print::print_told, crate::specs::Print::print_leaves))]
 pub fn print(out: &mut [u8], parts: &Parts) -> Result<usize, Refusal>
     ensures result_value { told result ≡ print_told parts.now.negative parts.now.intg parts.now.frac parts.now.groups out.old }
     ensures out_after { out.new ≡ print_leaves parts.now.negative parts.now.intg parts.now.frac parts.now.groups out.old }

@@ -23,6 +23,7 @@ fn put_bytes(out: &mut [u8], at: usize, w: usize, x: u32)
 }
 
 // The number whose bytes are those of x, inverted or not.
+#[tactic(auto, unfolding(crate::specs::Course::shade))]
 fn shaded_number(inverted: bool, x: u32) -> u32
     ensures { result ≡ shade inverted x }
 {
@@ -53,7 +54,7 @@ fn put_fours(
 
 // Writes all groups: the integral rest, the whole groups of both sides, the rest of the fraction.
 fn put_packed(out: &mut [u8], d: Formed<'_>, s: Sides)
-    requires { (s ≡ sides_of d.entry.parts.now.intg d.entry.parts.now.frac) × (size d.entry.parts.now.intg d.entry.parts.now.frac ≤ length out.old) }
+    requires { (s ≡ sides_of d.parts.now.intg d.parts.now.frac) × (size d.parts.now.intg d.parts.now.frac ≤ length out.old) }
     ensures { out.new ≡ shaded d.entry.parts.now.negative (digits_to Plain d.entry.parts.now.intg d.entry.parts.now.frac d.entry.parts.now.groups 9) ++ drop (size d.entry.parts.now.intg d.entry.parts.now.frac) out.old }
 {
     let inverted = d.parts.negative;
@@ -65,6 +66,7 @@ fn put_packed(out: &mut [u8], d: Formed<'_>, s: Sides)
     put_bytes(out, at, s.back, shaded_number(inverted, rest));
 }
 
+#[tactic(auto, unfolding(groups::specs::Packed::flip_first, groups::specs::Packed::flip))]
 fn flip_first(out: &mut [u8])
     requires { 0 < length out.old }
     ensures { out.new ≡ flip_first out.old }
@@ -74,6 +76,7 @@ fn flip_first(out: &mut [u8])
 }
 
 // Writes the groups of a decimal, inverted where it is negative, to the front of the output, and counts the bytes. A refusal changes nothing.
+#[tactic(auto, unfolding(groups::specs::Write::write_told, groups::specs::Write::write_leaves))]
 pub fn write(out: &mut [u8], parts: &Parts) -> Result<usize, Refusal>
     ensures result_value { told result ≡ write_told parts.now.negative parts.now.intg parts.now.frac parts.now.groups out.old }
     ensures out_after { out.new ≡ write_leaves parts.now.negative parts.now.intg parts.now.frac parts.now.groups out.old }
