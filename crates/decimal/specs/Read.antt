@@ -1,15 +1,15 @@
 -- What reading a packed decimal answers (decimal.c of MySQL; document 01, 'Decimal rules'; of the sign document 02, W2). The groups are read by
--- `read_groups` of the crate groups, with its refusals 20, 21 and 22; what is left of them without kept precision is `without_leading` of the crate
+-- `read_groups` of the crate groups, with its refusals Range, Short and Group; what is left of them without kept precision is `without_leading` of the crate
 -- kept; here stand the sign and the packed header.
 -- Assumes nothing.
-use Rattle.std.specs.Prelude.{ℕ, ◌+◌, ◌-◌, Bool, true, false, cond, List, [], ◌∷◌, ltb, eqb}
+use Rattle.std.specs.Prelude.{ℕ, ◌+◌, ◌-◌, Bool, true, false, cond, List, [], ◌∷◌, ltb, eqb, Result, Ok, Err}
+use Rattle.refusal.specs.declared.Refusal.{Refusal}
+use Rattle.refusal.specs.declared.Refusal.TheVariants as refusal
 use Rattle.groups.specs.Layout.{form_of}
 use Rattle.groups.specs.Read.{read_groups, zeros}
 use Rattle.groups.specs.Sign.{below_zero}
-use Rattle.groups.specs.declared.Groups.{Groups}
 use Rattle.kept.specs.Kept.{without_leading}
 use Rattle.decimal.specs.declared.Decimal.{Decimal}
-use Rattle.decimal.specs.declared.Answer.{Answer}
 
 -- the first bit is clear where the bytes were inverted: those of a negative value, and of a negative zero
 unfoldable pub negative : List ℕ → Bool
@@ -33,22 +33,17 @@ unfoldable pub finished : Bool → ℕ → ℕ → Bool → List ℕ → Decimal
 finished true i f neg gs = or_nought i f neg gs
 finished false i f neg gs = or_nought (without_leading i gs).intg f neg (without_leading i gs).groups
 
-abbrev pub refused : ℕ → Answer
-refused n = record { refusal = n; decimal = nought }
-
-abbrev pub accepted : Decimal → Answer
-accepted d = record { refusal = 0; decimal = d }
-
 -- groups that were read, or their refusal
-unfoldable pub from_groups : Groups → ℕ → ℕ → Bool → Bool → Answer
-from_groups g i f neg keep = cond (eqb g.refusal 0) (accepted (finished keep i f neg g.groups)) (refused g.refusal)
+unfoldable pub from_groups : Result (List ℕ) Refusal → ℕ → ℕ → Bool → Bool → Result Decimal Refusal
+from_groups (Ok gs) i f neg keep = Ok (finished keep i f neg gs)
+from_groups (Err r) i f neg keep = Err r
 
 -- digit bytes of a known precision and scale
-unfoldable pub read_bin : List ℕ → ℕ → ℕ → Bool → Answer
+unfoldable pub read_bin : List ℕ → ℕ → ℕ → Bool → Result Decimal Refusal
 read_bin bs p s keep = from_groups (read_groups (form_of (negative bs)) bs p s) (p - s) s (negative bs) keep
 
 -- packed: precision byte, scale byte, digits
-unfoldable pub read_packed : List ℕ → Bool → Answer
-read_packed [] keep = refused 21
-read_packed (p ∷ []) keep = refused 21
+unfoldable pub read_packed : List ℕ → Bool → Result Decimal Refusal
+read_packed [] keep = Err refusal.Short
+read_packed (p ∷ []) keep = Err refusal.Short
 read_packed (p ∷ s ∷ bs) keep = read_bin bs p s keep

@@ -1,6 +1,7 @@
 -- A decimal's text, read and printed. The text and its digits are those of the crates numeral and printing; here a decimal is made of them, and them of a decimal.
 -- Assumes nothing.
-use Rattle.std.specs.Prelude.{ℕ, Bool, cond, List, eqb}
+use Rattle.std.specs.Prelude.{ℕ, Bool, cond, List, Result, Ok, Err}
+use Rattle.refusal.specs.declared.Refusal.{Refusal}
 use Rattle.refusal.specs.Told.{Told, refusal}
 use Rattle.groups.specs.Numbers.{tab}
 use Rattle.groups.specs.Read.{stored_at}
@@ -8,10 +9,9 @@ use Rattle.groups.specs.Write.{digits_to, room_told, room_leaves}
 use Rattle.groups.specs.Layout.{Digits}
 use Rattle.numeral.specs.Read.{Numeral, read_text}
 use Rattle.printing.specs.Print.{text_of}
-use Rattle.decimal.specs.Read.{decimal_of, refused, accepted}
+use Rattle.decimal.specs.Read.{decimal_of}
 use Rattle.decimal.specs.Write.{is_well}
 use Rattle.decimal.specs.declared.Decimal.{Decimal}
-use Rattle.decimal.specs.declared.Answer.{Answer}
 
 -- the decimal with these digits, i of them before the point and f after it; a text zero is positive
 unfoldable pub of_digits : Bool → ℕ → ℕ → List ℕ → Decimal
@@ -20,9 +20,14 @@ of_digits neg i f ds = decimal_of i f neg (tab 9 (stored_at Digits i f ds))
 abbrev pub of_numeral : Numeral → Decimal
 of_numeral t = of_digits t.negative t.intg t.frac t.digits
 
--- 23, then 24, else the decimal
-unfoldable pub parse_text : List ℕ → Answer
-parse_text bs = cond (eqb (read_text bs).refusal 0) (accepted (of_numeral (read_text bs))) (refused (read_text bs).refusal)
+-- the decimal of a numeral that was read, or its refusal
+abbrev pub from_numeral : Result Numeral Refusal → Result Decimal Refusal
+from_numeral (Ok t) = Ok (of_numeral t)
+from_numeral (Err r) = Err r
+
+-- Text, then Digits, else the decimal
+unfoldable pub parse_text : List ℕ → Result Decimal Refusal
+parse_text bs = from_numeral (read_text bs)
 
 -- the digits of a decimal, in its groups' order
 abbrev pub digits_of : Decimal → List ℕ

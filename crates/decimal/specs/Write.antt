@@ -4,7 +4,12 @@ use Rattle.std.specs.Prelude.{ℕ, Bool, cond, List, [], ◌∷◌}
 use Rattle.refusal.specs.Told.{Told, answer, refusal}
 use Rattle.groups.specs.Layout.{form_of, size}
 use Rattle.groups.specs.Write.{well_formed, written, write_told, write_leaves}
+use Rattle.groups.specs.declared.Parts.{Parts}
 use Rattle.decimal.specs.declared.Decimal.{Decimal}
+
+-- the parts of a record
+abbrev pub parts_of : Decimal → Parts
+parts_of d = record { negative = d.sign; intg = d.intg; frac = d.frac; groups = d.groups }
 
 -- the record is a decimal
 abbrev pub is_well : Decimal → Bool

@@ -7,19 +7,21 @@ ghost use Rattle.std.specs.Prelude.{◌≡◌};
 ghost use Rattle.groups.specs.Write.{told as count_told};
 ghost use Rattle.order.specs.Value.{told};
 ghost use Rattle.decimal.specs.Read.{read_bin, read_packed};
-ghost use Rattle.decimal.specs.Write.{bin_size, write_bin, bin_leaves};
+ghost use Rattle.decimal.specs.Write.{parts_of, bin_size, write_bin, bin_leaves};
 ghost use Rattle.decimal.specs.Text.{parse_text, print_told, print_leaves};
 ghost use Rattle.decimal.specs.Value.{compare_told};
 
-pub use groups::Counted;
+use formed::Formed;
+use groups::Parts;
+use refusal::Refusal;
+use std::cmp::Ordering;
 
 // The bytes that a decimal of this precision and scale takes, by the name that it has in the Rust.
 pub use groups::size as decimal_bin_size;
-pub use order::Compared;
 
 // A decimal: as many integral and fractional digits, a sign, and the digits in groups of nine from the point outwards. The groups of
 // the fraction are stored as if each had nine digits, unused groups are 0, and a zero has no sign.
-#[derive(Clone, Copy)]
+#[derive(Clone, Copy, Debug, PartialEq, Eq)]
 pub struct Decimal {
     pub intg: usize,
     pub frac: usize,
@@ -27,94 +29,86 @@ pub struct Decimal {
     pub groups: [u32; 9],
 }
 
-// A decimal, or a refusal with positive 0. The refusal is 0 where there is none.
-#[derive(Clone, Copy)]
-pub struct Answer {
-    pub refusal: u8,
-    pub decimal: Decimal,
+impl From<Decimal> for Parts {
+    ghost from_gives = { λ d p. p ≡ parts_of d };
+
+    fn from(d: Decimal) -> Parts {
+        Parts {
+            negative: d.sign,
+            intg: d.intg,
+            frac: d.frac,
+            groups: d.groups,
+        }
+    }
 }
 
 impl Decimal {
     // The bytes that this decimal takes.
-    pub fn bin_size(self) -> Counted
+    pub fn bin_size(self) -> Result<usize, Refusal>
         ensures { count_told result ≡ bin_size self }
     {
-        let gs = self.groups;
-        if !formed::well_formed(self.sign, self.intg, self.frac, &gs) {
-            return Counted::Refused(refusal::RECORD);
-        }
-        groups::size(self.intg + self.frac, self.frac)
+        let parts = Parts::from(self);
+        let d = Formed::new(&parts)?;
+        groups::size(d.parts.intg + d.parts.frac, d.parts.frac)
     }
 
     // The decimal in the digit bytes at the front; a zero is positive, whatever they say.
-    pub fn read_bin(bytes: &[u8], precision: usize, scale: usize, keep: bool) -> Answer
+    pub fn read_bin(
+        bytes: &[u8],
+        precision: usize,
+        scale: usize,
+        keep: bool,
+    ) -> Result<Decimal, Refusal>
         ensures { result ≡ read_bin bytes.now precision scale keep }
     {
         let negative = reader::is_negative(bytes);
-        let g = reading::read(bytes, negative, precision, scale);
-        if g.refusal != 0 {
-            return reader::refuse(g.refusal);
-        }
-        let gs = g.groups;
-        Answer {
-            refusal: 0,
-            decimal: reader::finish(keep, precision - scale, scale, negative, gs),
-        }
+        let groups = reading::read(bytes, negative, precision, scale)?;
+        let parts = Parts {
+            negative,
+            intg: precision - scale,
+            frac: scale,
+            groups,
+        };
+        Ok(reader::finish(keep, parts))
     }
 
     // The decimal in the packed form at the front: a precision byte, a scale byte and digit bytes.
-    pub fn read_packed(bytes: &[u8], keep: bool) -> Answer
+    pub fn read_packed(bytes: &[u8], keep: bool) -> Result<Decimal, Refusal>
         ensures { result ≡ read_packed bytes.now keep }
     {
-        if bytes.len() < 2 {
-            return reader::refuse(refusal::SHORT);
-        }
-        let precision = reader::wide(bytes[0]);
-        let scale = reader::wide(bytes[1]);
-        Decimal::read_bin(&bytes[2..], precision, scale, keep)
+        let [precision, scale, digits @ ..] = bytes else {
+            return Err(Refusal::Short);
+        };
+        Decimal::read_bin(digits, usize::from(*precision), usize::from(*scale), keep)
     }
 
     // Writes the digit bytes to the front of the output, and counts them. A refusal changes nothing.
-    pub fn write_bin(self, out: &mut [u8]) -> Counted
+    pub fn write_bin(self, out: &mut [u8]) -> Result<usize, Refusal>
         ensures result_value { count_told result ≡ write_bin self out.old }
         ensures out_after { out.new ≡ bin_leaves self out.old }
     {
-        let gs = self.groups;
-        writing::write(out, self.sign, self.intg, self.frac, gs)
+        writing::write(out, &Parts::from(self))
     }
 
     // The decimal that the text writes; a zero is positive.
-    pub fn parse_str_bytes(text: &[u8]) -> Answer
+    pub fn parse_str_bytes(text: &[u8]) -> Result<Decimal, Refusal>
         ensures { result ≡ parse_text text.now }
     {
-        let t = numeral::read(text);
-        if t.refusal != 0 {
-            return reader::refuse(t.refusal);
-        }
-        let gs = t.groups;
-        Answer {
-            refusal: 0,
-            decimal: reader::decimal_of(t.intg, t.frac, t.negative, gs),
-        }
+        Ok(reader::decimal_of(numeral::read(text)?))
     }
 
     // Prints the decimal to the front of the output, and counts the characters. A refusal changes nothing.
-    pub fn print(self, out: &mut [u8]) -> Counted
+    pub fn print(self, out: &mut [u8]) -> Result<usize, Refusal>
         ensures result_value { count_told result ≡ print_told self out.old }
         ensures out_after { out.new ≡ print_leaves self out.old }
     {
-        let gs = self.groups;
-        printing::print(out, self.sign, self.intg, self.frac, gs)
+        printing::print(out, &Parts::from(self))
     }
 
     // The order of the two values. That its answers are an order, and how they go with what is printed: specs/Order.antt of the crate order_laws.
-    pub fn compare(self, other: Decimal) -> Compared
+    pub fn compare(self, other: Decimal) -> Result<Ordering, Refusal>
         ensures { told result ≡ compare_told self other }
     {
-        let a = self.groups;
-        let b = other.groups;
-        order::compare(
-            self.sign, self.intg, self.frac, a, other.sign, other.intg, other.frac, b,
-        )
+        order::compare(&Parts::from(self), &Parts::from(other))
     }
 }

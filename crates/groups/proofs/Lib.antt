@@ -1,6 +1,5 @@
 pub mod Finite
 pub mod Tab
-pub mod Trim
 pub mod Accept
 pub mod Sizes
 pub mod Radix

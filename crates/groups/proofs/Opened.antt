@@ -11,30 +11,32 @@ use lib.Arith.{digits_lt}
 use lib.ListN.{length, take, drop, length-drop}
 use lib.Seq.{get_or-drop, length-take-le}
 use borrow.Author.Tests.{lt-ltb, le-leb, leb-true}
+use Rattle.std.specs.Prelude.{Ok, Err}
+use Rattle.refusal.specs.declared.Refusal.{Refusal}
 use Rattle.refusal.specs.Told.{answer}
 use Rattle.groups.specs.Numbers.{number, tab, all, Below}
 use Rattle.groups.specs.Layout.{digits_at, offset, size_in, size, Form, Digits}
 use Rattle.groups.specs.Packed.{digits_in}
-use Rattle.groups.specs.Read.{in_range, group_at, range_at, stored_at, no_groups, groups_in, read_groups}
+use Rattle.groups.specs.Read.{in_range, group_at, range_at, stored_at, groups_in, read_groups}
 use Rattle.groups.specs.Write.{size_of, well_groups}
 use Rattle.groups.proofs.Accept.{well-digits}
 use Rattle.groups.proofs.Places.{within}
 
 -- ---- the three tests
-three : (a b c : Bool) (gs : List ℕ) → (cond a (cond b (cond c (record { refusal = 0; groups = gs }) (no_groups 22)) (no_groups 21)) (no_groups 20)).refusal ≡ 0
-    → (a ≡ true) × ((b ≡ true) × (c ≡ true))
-three true true true gs e = (refl, (refl, refl))
-three true true false gs e = absurd (omega arith)
-three true false c gs e = absurd (omega arith)
-three false b c gs e = absurd (omega arith)
+three : (a b c : Bool) (gs hs : List ℕ) (x y z : Refusal) → cond a (cond b (cond c (Ok gs) (Err x)) (Err y)) (Err z) ≡ Ok hs
+    → (a ≡ true) × ((b ≡ true) × ((c ≡ true) × (hs ≡ gs)))
+three true true true gs hs x y z e = (refl, (refl, (refl, cc)))
+three true true false gs hs x y z e = absurd (cc)
+three true false c gs hs x y z e = absurd (cc)
+three false b c gs hs x y z e = absurd (cc)
 
-pub opened : (F : Form) (bs : List ℕ) (p s : ℕ) → (read_groups F bs p s).refusal ≡ 0
-    → (in_range p s ≡ true) × ((size_in F (p - s) s ≤ length bs) × (all 9 (range_at F (p - s) s (digits_in F bs)) ≡ true))
+pub opened : (F : Form) (bs : List ℕ) (p s : ℕ) (gs : List ℕ) → read_groups F bs p s ≡ Ok gs
+    → (in_range p s ≡ true) × ((size_in F (p - s) s ≤ length bs) × ((all 9 (range_at F (p - s) s (digits_in F bs)) ≡ true) × (gs ≡ tab 9 (stored_at F (p - s) s (digits_in F bs)))))
 unfolding read_groups groups_in
-opened F bs p s e = let t = three _ _ _ _ e in (t.0, (leb-true _ _ t.1.0, t.1.1))
+opened F bs p s gs e = let t = three _ _ _ _ _ _ _ _ e in (t.0, (leb-true _ _ t.1.0, t.1.1))
 
 pub reads : (F : Form) (bs : List ℕ) (p s : ℕ) → in_range p s ≡ true → size_in F (p - s) s ≤ length bs → all 9 (range_at F (p - s) s (digits_in F bs)) ≡ true
-    → read_groups F bs p s ≡ record { refusal = 0; groups = tab 9 (stored_at F (p - s) s (digits_in F bs)) }
+    → read_groups F bs p s ≡ Ok (tab 9 (stored_at F (p - s) s (digits_in F bs)))
 unfolding read_groups groups_in
 reads F bs p s r l a = simp (r, le-leb _ _ l, a)
 

@@ -10,6 +10,7 @@ use native.Mathlib.Omega.{arith}
 use lib.Pow.{pow-add}
 use lib.Dec.{ltb, lit<}
 use borrow.Author.Tests.{le-leb}
+use Rattle.std.specs.Int.{div_ceil}
 use Rattle.groups.specs.Layout.{wide_of, groups_of, side, digits_at, offset, Form, power_of}
 use Rattle.groups.specs.Read.{unit_of}
 
@@ -67,3 +68,8 @@ stored-lt i k d x h l = go (ltb k (groups_of i))
     go : (t : Bool) → x * cond t 1 (10 ^ (9 - d)) < 1000000000
     go true = rw mul-one (lt_of_lt_of_le l (pow-le-pow_right (lit< tt) {j = 9} h))
     go false = subst (λ (n : ℕ). x * 10 ^ (9 - d) < n) (nine d h) (mul-lt-mul_of_pos_right l (pow-pos10 (9 - d)))
+
+-- as many groups as digits by nine, rounded up
+pub ceil-nine : (n : ℕ) → div_ceil n 9 ≡ groups_of n
+unfolding groups_of
+ceil-nine n = omega arith

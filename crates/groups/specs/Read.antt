@@ -1,11 +1,12 @@
--- What reading the groups of a decimal answers (the function is that of `reading`): 20, then 21, then 22 where a group has more digits than its place, else the nine groups as
--- they are kept in a record.
+-- What reading the groups of a decimal answers (the function is that of `reading`): Range, then Short, then Group where a group has more digits than its place, else the nine
+-- groups as they are kept in a record.
 -- Assumes nothing.
-use Rattle.std.specs.Prelude.{ℕ, ◌-◌, ◌*◌, ◌^◌, Bool, cond, List, leb, ltb, length, take, drop, replicate}
+use Rattle.std.specs.Prelude.{ℕ, ◌-◌, ◌*◌, ◌^◌, Bool, cond, List, leb, ltb, length, take, drop, replicate, Result, Ok, Err}
+use Rattle.refusal.specs.declared.Refusal.{Refusal}
+use Rattle.refusal.specs.declared.Refusal.TheVariants as refusal
 use Rattle.groups.specs.Numbers.{number, tab, both, all}
 use Rattle.groups.specs.Layout.{groups_of, digits_at, base_of, wide_of, offset, size_in, Form}
 use Rattle.groups.specs.Packed.{digits_in}
-use Rattle.groups.specs.declared.Groups.{Groups}
 
 -- accepted: precision at most 65, scale at most 30 and at most the precision. (0 with 0 is among them, and has no digits)
 unfoldable pub in_range : ℕ → ℕ → Bool
@@ -30,12 +31,10 @@ stored_at F i f ds k = group_at F i f ds k * unit_of i k (digits_at i f k)
 abbrev pub zeros : List ℕ
 zeros = replicate 9 0
 
-abbrev pub no_groups : ℕ → Groups
-no_groups n = record { refusal = n; groups = zeros }
-
 -- of i integral and f fractional digits, all of whose bytes are there
-unfoldable pub groups_in : Form → ℕ → ℕ → List ℕ → Groups
-groups_in F i f ds = cond (all 9 (range_at F i f ds)) (record { refusal = 0; groups = tab 9 (stored_at F i f ds) }) (no_groups 22)
+unfoldable pub groups_in : Form → ℕ → ℕ → List ℕ → Result (List ℕ) Refusal
+groups_in F i f ds = cond (all 9 (range_at F i f ds)) (Ok (tab 9 (stored_at F i f ds))) (Err refusal.Group)
 
-unfoldable pub read_groups : Form → List ℕ → ℕ → ℕ → Groups
-read_groups F bs p s = cond (in_range p s) (cond (leb (size_in F (p - s) s) (length bs)) (groups_in F (p - s) s (digits_in F bs)) (no_groups 21)) (no_groups 20)
+unfoldable pub read_groups : Form → List ℕ → ℕ → ℕ → Result (List ℕ) Refusal
+read_groups F bs p s =
+    cond (in_range p s) (cond (leb (size_in F (p - s) s) (length bs)) (groups_in F (p - s) s (digits_in F bs)) (Err refusal.Short)) (Err refusal.Range)

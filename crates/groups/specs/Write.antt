@@ -1,19 +1,17 @@
 -- What a well formed decimal is, and what writing its groups answers and leaves (the function is that of `writing`; what is said of room is `printing`'s too): 26, then 25, else the count of bytes; only these change.
 -- Assumes nothing.
-use Rattle.std.specs.Prelude.{ℕ, zero, suc, ◌+◌, ◌-◌, ◌/◌, ◌%◌, ◌^◌, Bool, cond, not, List, [], ◌∷◌, ◌++◌, leb, ltb, eqb, length, get_or, drop}
-use Rattle.refusal.specs.Told.{Told, answer, refusal}
+use Rattle.std.specs.Prelude.{ℕ, zero, suc, ◌+◌, ◌-◌, ◌/◌, ◌%◌, ◌^◌, Bool, cond, not, List, [], ◌∷◌, ◌++◌, leb, ltb, eqb, length, get_or, drop, Result}
+use Rattle.refusal.specs.declared.Refusal.{Refusal}
+use Rattle.refusal.specs.Told.{Told, answer, refusal, told_by}
 use Rattle.groups.specs.Numbers.{digits, both, all}
 use Rattle.groups.specs.Layout.{digits_at, form_of, base_of, wide_of, size, Form}
 use Rattle.groups.specs.Packed.{bytes_of}
 use Rattle.groups.specs.Read.{in_range, unit_of}
 use Rattle.groups.specs.Sign.{signed_nought}
-use Rattle.groups.specs.declared.Counted.{Counted}
-use Rattle.groups.specs.declared.Counted.TheVariants.{Bytes, Refused}
 
 -- an answer that counts bytes
-abbrev pub told : Counted → Told
-told (Bytes n) = answer (n ∷ [])
-told (Refused n) = refusal n
+abbrev pub told : Result ℕ Refusal → Told
+told r = told_by (λ n. n ∷ []) r
 
 -- the size of a precision and a scale, or 20
 unfoldable pub size_of : ℕ → ℕ → Told

@@ -5,7 +5,7 @@ ghost use Rattle.groups.specs.Sides.{sides_of};
 ghost use Rattle.groups.specs.Read.{in_range};
 ghost use Rattle.groups.specs.Write.{told, size_of};
 
-use super::Counted;
+use refusal::Refusal;
 
 const POWERS_10: [u32; 10] = [
     1, 10, 100, 1000, 10000, 100000, 1000000, 10000000, 100000000, 1000000000,
@@ -14,26 +14,20 @@ const POWERS_10: [u32; 10] = [
 // A group of d digits takes half as many bytes as digits, rounded up, since two digits fit a byte, and never more than four, since four
 // bytes hold nine digits (2^32 is above 10^9). So every number below 10^d fits: `fits` in proofs/Widths.antt. Three bytes would hold
 // seven digits too, but not the bit of the sign, which the first group has beside them (`no-fewer` there).
+#[tactic(auto, unfolding(crate::specs::Layout::width))]
 fn width_of(d: usize) -> usize
     requires { d ≤ 9 }
     ensures { (result ≡ width d) × (result ≤ 4) }
 {
-    let half = (d + 1) / 2;
-    if half < 4 { half } else { 4 }
-}
-
-fn power_of(d: usize) -> u32
-    requires { d ≤ 9 }
-    ensures { (result ≡ 10 ^ d) × ((result ≤ 1000000000) × (0 < result)) }
-{
-    POWERS_10[d]
+    d.div_ceil(2).min(4)
 }
 
 // 10 to the d, for the digits that a group can have, and 0 above.
+#[tactic(auto, unfolding(crate::specs::Layout::power_of))]
 pub fn power(d: usize) -> u32
     ensures { result ≡ power_of d }
 {
-    if d <= 9 { power_of(d) } else { 0 }
+    if d <= 9 { POWERS_10[d] } else { 0 }
 }
 
 // The places of a decimal: the integral digits that fill no whole group, if there are any, have the place 0; then come the whole groups
@@ -53,6 +47,7 @@ pub struct Sides {
 }
 
 // The sides of any numbers of digits. The size is that of a decimal where there is one of so many digits.
+#[tactic(auto, unfolding(crate::specs::Layout::width, crate::specs::Layout::groups_of))]
 pub fn sides_of(intg: usize, frac: usize) -> Sides
     ensures { result ≡ sides_of intg frac }
 {
@@ -78,23 +73,20 @@ pub fn sides_of(intg: usize, frac: usize) -> Sides
 }
 
 // Whether there are decimals of this precision and scale.
+#[tactic(auto, unfolding(crate::specs::Read::in_range))]
 pub fn accepted(p: usize, s: usize) -> bool
     ensures { result ≡ in_range p s }
 {
-    if p <= 65 {
-        if s <= 30 { s <= p } else { false }
-    } else {
-        false
-    }
+    p <= 65 && s <= 30 && s <= p
 }
 
-// The packed size of a precision and a scale, or 20.
-pub fn size(precision: usize, scale: usize) -> Counted
+// The packed size of a precision and a scale.
+#[tactic(auto, unfolding(crate::specs::Write::size_of))]
+pub fn size(precision: usize, scale: usize) -> Result<usize, Refusal>
     ensures { told result ≡ size_of precision scale }
 {
     if !accepted(precision, scale) {
-        return Counted::Refused(refusal::RANGE);
+        return Err(Refusal::Range);
     }
-    let s = sides_of(precision - scale, scale);
-    Counted::Bytes(s.size)
+    Ok(sides_of(precision - scale, scale).size)
 }

@@ -5,16 +5,12 @@ mod layout;
 
 pub use layout::{Sides, accepted, power, sides_of, size};
 
-// A count of bytes, or a refusal.
-#[derive(Clone, Copy)]
-pub enum Counted {
-    Bytes(usize),
-    Refused(u8),
-}
-
-// Nine groups, or a refusal with groups of 0. The refusal is 0 where there is none.
-#[derive(Clone, Copy)]
-pub struct Groups {
-    pub refusal: u8,
+// A sign, as many integral and fractional digits, and these digits in groups of nine from the point outwards, as a decimal's record keeps them. Those
+// that are a decimal's: the crate formed.
+#[derive(Clone, Copy, Debug, PartialEq, Eq)]
+pub struct Parts {
+    pub negative: bool,
+    pub intg: usize,
+    pub frac: usize,
     pub groups: [u32; 9],
 }

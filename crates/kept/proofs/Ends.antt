@@ -1,53 +1,54 @@
--- How leading zeros are counted at the ends, and what is kept where none leads and where some do.
+-- Leading zeros as the library counts them; what is kept where none leads and where some do; and the groups moved up to the front.
 -- Assumes nothing.
-use mathlib.Core.Path.{◌≡◌, refl}
-use mathlib.Core.List.{List, []}
-use Prim.Native.Nat.{ℕ, zero, suc, ◌+◌, ◌-◌, ◌*◌, ◌/◌, ◌≤◌}
-use native.Mathlib.Nat.{sub-zero}
-use native.Mathlib.Omega.{arith}
-use lib.ListN.{length, get_or, drop, drop_of_length-le}
+use Rattle.std.proofs.Common.{◌≡◌, ℕ, zero, suc, ◌+◌, ◌-◌, ◌*◌, ◌≤◌, ◌<◌, eqb, List, [], ◌∷◌, ◌++◌, length, get_or, take, drop, replicate, refl, sym, ap, ◌∙◌, arith}
+use native.Mathlib.Numerals.{one-add}
 use borrow.Author.Tests.{eq-eqb, ne_eqb}
+use lib.Seq.{get_or-drop}
+use mathlib.Core.Logic.{⊎_elim}
+use lib.ListN.{length-append, length-drop, length-replicate}
+use Rattle.std.specs.List.{prefix_len}
+use Rattle.std.proofs.lemmas.List.{get_or_append_left, get_or-append_right, drop-replicate, take_all, get_or_past}
 use Rattle.groups.specs.Numbers.{tab, leading_in}
 use Rattle.groups.specs.Layout.{groups_of}
-use Rattle.groups.proofs.Trim.{leading-stop, leading-more}
-use Rattle.kept.specs.Kept.{without, without_leading}
-use Rattle.kept.specs.declared.Kept.{Kept}
+use Rattle.groups.specs.declared.Parts.{Parts}
+use Rattle.groups.proofs.Caps.{below_or_not}
+use Rattle.groups.proofs.Tab.{filled, zeros-at}
+use Rattle.kept.specs.Kept.{without, kept_parts}
 
--- ---- leading zeros: past the last element there is none, and the first is one if it is 0
-nothing-leads : (m : ℕ) → leading_in m [] ≡ 0
+-- ---- leading zeros
+pub leading-prefix : (n : ℕ) (gs : List ℕ) → leading_in n gs ≡ prefix_len (λ g. eqb g 0) (take n gs)
 unfolding leading_in
-nothing-leads zero = refl
-nothing-leads (suc m) = refl
-
-pub leading_end : (m z : ℕ) (g : List ℕ) → length g ≤ z → leading_in m (drop z g) ≡ 0
-leading_end m z g h = rw (drop_of_length-le g h) (nothing-leads m)
-
-pub leading-first : (n : ℕ) (g : List ℕ) → 1 ≤ n → 1 ≤ length g → get_or g 0 0 ≡ 0 → 1 ≤ leading_in n g
-leading-first n g h l e = let q = rw sub-zero at (leading-more n 0 g h l e) in omega arith
+leading-prefix zero gs = refl
+leading-prefix (suc n) [] = refl
+leading-prefix (suc n) (g ∷ gs) = rw (leading-prefix n gs, one-add) refl
 
 -- ---- what is kept
-abbrev kept : ℕ → List ℕ → Kept
-kept i gs = record { intg = i; groups = gs }
-
-none-leads : (i : ℕ) (gs : List ℕ) → leading_in (groups_of i) gs ≡ 0 → kept i gs ≡ without_leading i gs
+pub none-leads : (p : Parts) → leading_in (groups_of p.intg) p.groups ≡ 0 → p ≡ kept_parts p
 unfolding without
-none-leads i gs e = simp (eq-eqb (leading_in (groups_of i) gs) 0 e)
+none-leads p e = simp (eq-eqb (leading_in (groups_of p.intg) p.groups) 0 e)
 
-pub first-counts : (i : ℕ) (gs : List ℕ) → 1 ≤ length gs → (get_or gs 0 0 ≡ 0 → ⊥) → kept i gs ≡ without_leading i gs
-first-counts i gs l h = none-leads i gs (leading-stop (groups_of i) 0 gs l h)
-
-pub no-integral : (i : ℕ) (gs : List ℕ) → i ≡ 0 → kept i gs ≡ without_leading i gs
-unfolding groups_of leading_in
-no-integral i gs e = none-leads i gs (rw e)
-
--- the groups of a side that has digits
-some-groups : (i : ℕ) → 1 ≤ i → (i - 1) / 9 + 1 ≡ groups_of i
-unfolding groups_of
-some-groups i h = omega arith
-
-pub some-lead : (i z : ℕ) (gs left : List ℕ) → 1 ≤ i → z ≡ leading_in ((i - 1) / 9 + 1) gs → 1 ≤ z → left ≡ tab 9 (λ k. get_or gs (k + z) 0)
-    → kept (9 * ((i - 1) / 9 + 1 - z)) left ≡ without_leading i gs
+pub some-lead : (p : Parts) (z : ℕ) (left : List ℕ) → z ≡ leading_in (groups_of p.intg) p.groups → (z ≡ 0 → ⊥) → left ≡ tab 9 (λ k. get_or p.groups (k + z) 0)
+    → ◌≡◌ {A = Parts} (record { negative = p.negative; intg = 9 * (groups_of p.intg - z); frac = p.frac; groups = left }) (kept_parts p)
 unfolding without
-some-lead i z gs left l e h q =
-    let n = some-groups i l in
-    rw (q, ← n, ← e) (simp (ne_eqb z 0 (λ (r : z ≡ 0). omega arith)))
+some-lead p z left e h q = rw (q, ← e) (simp (ne_eqb z 0 h))
+
+-- ---- the groups from place z on, and zeros after them
+pub moved : (gs : List ℕ) (z : ℕ) → length gs ≡ 9 → z ≤ 9 → take (9 - z) (drop z gs) ++ drop (9 - z) (replicate 9 0) ≡ tab 9 (λ k. get_or gs (k + z) 0)
+moved gs z n l =
+    rw whole (filled 9 (λ k. get_or gs (k + z) 0) (drop z gs ++ drop (9 - z) (replicate 9 0)) long each)
+  where
+    len : length (drop z gs) ≡ 9 - z
+    len = length-drop z gs ∙ rw n refl
+
+    whole : take (9 - z) (drop z gs) ≡ drop z gs
+    whole = take_all (9 - z) (drop z gs) (omega (arith, len))
+
+    long : length (drop z gs ++ drop (9 - z) (replicate 9 0)) ≡ 9
+    long = simp (length-append, drop-replicate, length-replicate) (omega (arith, len))
+
+    each : (k : ℕ) → k < 9 → get_or (drop z gs ++ drop (9 - z) (replicate 9 0)) k 0 ≡ get_or gs (k + z) 0
+    each k h =
+        ⊎_elim
+        (λ (a : k < 9 - z). get_or_append_left (drop z gs) (drop (9 - z) (replicate 9 0)) 0 k (omega (arith, len)) ∙ get_or-drop z gs k 0 ∙ ap (λ (j : ℕ). get_or gs j 0) (omega arith))
+        (λ (a : 9 - z ≤ k). get_or-append_right (drop z gs) (drop (9 - z) (replicate 9 0)) (9 - z) k 0 len a ∙ rw drop-replicate (zeros-at (9 - (9 - z)) (k - (9 - z))) ∙ sym (get_or_past gs (k + z) 0 (omega (arith, n))))
+        (below_or_not k (9 - z))

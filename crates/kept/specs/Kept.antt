@@ -4,7 +4,12 @@
 use Rattle.std.specs.Prelude.{ℕ, ◌+◌, ◌-◌, ◌*◌, cond, List, eqb, get_or}
 use Rattle.groups.specs.Numbers.{tab, leading_in}
 use Rattle.groups.specs.Layout.{groups_of}
-use Rattle.kept.specs.declared.Kept.{Kept}
+use Rattle.groups.specs.declared.Parts.{Parts}
+
+-- integral digits, and the groups of a decimal that has so many
+pub record Kept : Type 0 where
+  pub intg : ℕ
+  pub groups : List ℕ
 
 -- without the first z integral groups: the others move up, and each of them is whole
 unfoldable pub without : ℕ → ℕ → List ℕ → Kept
@@ -14,3 +19,13 @@ without z i gs = cond (eqb z 0) (record { intg = i; groups = gs }) (record { int
 -- are, and of those at most the nine are dropped
 abbrev pub without_leading : ℕ → List ℕ → Kept
 without_leading i gs = without (leading_in (groups_of i) gs) i gs
+
+-- the parts of a decimal with what is left of them
+abbrev pub kept_parts : Parts → Parts
+kept_parts p =
+    record {
+      negative = p.negative;
+      intg = (without_leading p.intg p.groups).intg;
+      frac = p.frac;
+      groups = (without_leading p.intg p.groups).groups;
+    }

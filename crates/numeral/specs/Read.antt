@@ -1,15 +1,15 @@
 -- Decimal text, read (document 01, 'Decimal rules'). Characters are bytes: '0' is 48 and '9' 57, '+' is 43, '-' 45 and '.' 46.
 -- Assumes nothing.
-use Rattle.std.specs.Prelude.{ℕ, suc, ◌+◌, ◌-◌, Bool, true, false, cond, List, [], ◌∷◌, ◌++◌, map, leb, eqb, length, take, drop}
+use Rattle.std.specs.Prelude.{ℕ, suc, ◌+◌, ◌-◌, Bool, true, false, cond, List, [], ◌∷◌, ◌++◌, map, leb, eqb, length, take, drop, Result, Ok, Err}
+use Rattle.refusal.specs.declared.Refusal.{Refusal}
+use Rattle.refusal.specs.declared.Refusal.TheVariants as refusal
 use Rattle.groups.specs.Numbers.{tab, both}
 use Rattle.groups.specs.Layout.{Digits}
 use Rattle.groups.specs.Read.{stored_at}
-use Rattle.numeral.specs.declared.Parsed.{Parsed}
+use Rattle.groups.specs.declared.Parts.{Parts}
 
--- A sign, as many digits before the point and after it, and these digits, each a number from 0 to 9; or a refusal with digits of 0.
--- The refusal is 0 where there is none.
+-- A sign, as many digits before the point and after it, and these digits, each a number from 0 to 9.
 pub record Numeral : Type 0 where
-  pub refusal : ℕ
   pub negative : Bool
   pub intg : ℕ
   pub frac : ℕ
@@ -64,27 +64,28 @@ digit_of c = c - 48
 unfoldable pub digits_in : List ℕ → List ℕ
 digits_in xs = map digit_of (whole_part xs ++ fraction_part xs)
 
-abbrev pub no_numeral : ℕ → Numeral
-no_numeral n = record { refusal = n; negative = false; intg = 0; frac = 0; digits = [] }
-
 abbrev pub numeral_of : Bool → List ℕ → Numeral
 numeral_of neg xs =
-    record { refusal = 0; negative = neg; intg = length (whole_part xs); frac = length (fraction_part xs); digits = digits_in xs }
+    record { negative = neg; intg = length (whole_part xs); frac = length (fraction_part xs); digits = digits_in xs }
 
--- 23 before 24
-unfoldable pub read_unsigned : Bool → List ℕ → Numeral
-read_unsigned neg xs = cond (is_text xs) (cond (few_digits (length (whole_part xs)) (length (fraction_part xs))) (numeral_of neg xs) (no_numeral 24)) (no_numeral 23)
+-- Text before Digits
+unfoldable pub read_unsigned : Bool → List ℕ → Result Numeral Refusal
+read_unsigned neg xs =
+    cond (is_text xs) (cond (few_digits (length (whole_part xs)) (length (fraction_part xs))) (Ok (numeral_of neg xs)) (Err refusal.Digits)) (Err refusal.Text)
 
-unfoldable pub read_text : List ℕ → Numeral
+unfoldable pub read_text : List ℕ → Result Numeral Refusal
 read_text bs = read_unsigned (minus (strip bs)) (unsigned (strip bs))
 
 -- the numeral with its digits in groups of nine
-abbrev pub parsed : Numeral → Parsed
-parsed t =
+abbrev pub parts_of : Numeral → Parts
+parts_of t =
     record {
-      refusal = t.refusal;
       negative = t.negative;
       intg = t.intg;
       frac = t.frac;
       groups = tab 9 (stored_at Digits t.intg t.frac t.digits);
     }
+
+abbrev pub parsed : Result Numeral Refusal → Result Parts Refusal
+parsed (Ok t) = Ok (parts_of t)
+parsed (Err r) = Err r

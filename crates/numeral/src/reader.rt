@@ -1,211 +1,125 @@
 // From text to groups of nine digits.
-ghost use Rattle.std.specs.Prelude.{◌≡◌, ◌+◌, ◌-◌, ◌*◌, ◌^◌, ◌<◌, ◌≤◌, length, drop};
-ghost use Rattle.groups.specs.Numbers.{tab};
+ghost use Rattle.std.specs.Prelude.{◌≡◌, ◌+◌, ◌-◌, ◌*◌, ◌^◌, ◌<◌, ◌≤◌, ◌++◌, true, false, length, take, drop, map, MatchOption};
+ghost use Rattle.groups.specs.Numbers.{number, tab};
 ghost use Rattle.groups.specs.Layout.{Digits};
 ghost use Rattle.groups.specs.Read.{stored_at};
-ghost use Rattle.numeral.specs.Read.{is_digit, strip, minus, unsigned, run, digit_of, digits_in, no_numeral, read_unsigned, read_text, parsed};
-ghost use Rattle.numeral.specs.Course.{zero_zero, fraction_at, DigitsFrom, number_at, Nines};
+ghost use Rattle.numeral.specs.Read.{strip, minus, unsigned, run, pointed, digit_of, read_unsigned, read_text, parsed};
+ghost use Rattle.numeral.specs.Course.{AllDigits, Nines};
 
-use super::Parsed;
+use groups::Parts;
+use refusal::Refusal;
 
-fn is_digit(c: u8) -> bool
-    ensures { result ≡ is_digit c }
+// The text once one zero is removed while it begins "00".
+#[tactic(auto, unfolding(crate::specs::Read::strip))]
+fn skip_zeros(text: &[u8]) -> &[u8]
+    ensures { result.now ≡ strip text.now }
 {
-    if 48 <= c { c <= 57 } else { false }
+    let mut rest = text;
+    while let [b'0', b'0', ..] = rest {
+        rest = &rest[1..];
+    }
+    rest
 }
 
-fn begins_00(text: &[u8], at: usize) -> bool
-    ensures { result ≡ zero_zero (drop at text.now) }
+// Whether there is a minus, and the text after an optional sign.
+#[tactic(auto, unfolding(crate::specs::Read::minus, crate::specs::Read::unsigned))]
+fn split_sign(text: &[u8]) -> (bool, &[u8])
+    ensures { (result.0 ≡ minus text.now) × (result.1.now ≡ unsigned text.now) }
 {
-    let n = text.len();
-    if n <= at {
-        return false;
-    }
-    if n - at < 2 {
-        return false;
-    }
-    if text[at] == 48 {
-        text[at + 1] == 48
-    } else {
-        false
-    }
-}
-
-// Where the text begins once one zero is removed while it begins "00".
-fn skip_zeros(text: &[u8]) -> usize
-    ensures { (drop result text.now ≡ strip text.now) × (result ≤ length text.now) }
-{
-    let mut at = 0;
-    while begins_00(text, at) {
-        at += 1;
-    }
-    at
-}
-
-fn is_minus(text: &[u8], at: usize) -> bool
-    ensures { result ≡ minus (drop at text.now) }
-{
-    if text.len() <= at {
-        return false;
-    }
-    text[at] == 45
-}
-
-// Where the text goes on after an optional sign.
-fn skip_sign(text: &[u8], at: usize) -> usize
-    requires { at ≤ length text.now }
-    ensures { (drop result text.now ≡ unsigned (drop at text.now)) × (result ≤ length text.now) }
-{
-    if text.len() == at {
-        return at;
-    }
-    let c = text[at];
-    if c == 45 {
-        return at + 1;
-    }
-    if c == 43 { at + 1 } else { at }
-}
-
-// How many digits there are from a place on.
-fn digit_run(text: &[u8], from: usize) -> usize
-    requires { from ≤ length text.now }
-    ensures { (result ≡ run (drop from text.now)) × (from + result ≤ length text.now) }
-{
-    let mut n = 0;
-    while n < text.len() - from {
-        if !is_digit(text[from + n]) {
-            return n;
-        }
-        n += 1;
-    }
-    n
-}
-
-// What follows the integral digits: so many digits after a point, to the end, or something else.
-#[derive(Clone, Copy)]
-pub enum Fraction {
-    Places(usize),
-    Other,
-}
-
-fn fraction_at(text: &[u8], at: usize) -> Fraction
-    requires { at ≤ length text.now }
-    ensures { result ≡ fraction_at (drop at text.now) }
-{
-    if text.len() == at {
-        return Fraction::Places(0);
-    }
-    if text[at] != 46 {
-        return Fraction::Other;
-    }
-    let left = text.len() - (at + 1);
-    if digit_run(text, at + 1) == left {
-        Fraction::Places(left)
-    } else {
-        Fraction::Other
+    match text {
+        [b'-', rest @ ..] => (true, rest),
+        [b'+', rest @ ..] => (false, rest),
+        _ => (false, text),
     }
 }
 
-fn digit_of(c: u8) -> u32
-    requires { 48 ≤ c }
-    ensures { result ≡ digit_of c }
+// How many digits the text begins with.
+fn digit_run(text: &[u8]) -> usize
+    ensures { (result ≡ run text.now) × (result ≤ length text.now) }
 {
-    (c - 48) as u32
+    text.iter().take_while(|c| c.is_ascii_digit()).count()
 }
 
-// The number that n digits of the text write.
-fn number_at(text: &[u8], from: usize, n: usize) -> u32
-    requires n_bound { (n ≤ 9) × (from + n ≤ length text.now) }
-    requires digits_from { DigitsFrom from n text.now }
-    ensures { (result ≡ number_at text.now from n) × (result < 10 ^ n) }
+// What follows the integral digits: nothing, or a point and digits to the end. The digits, or nothing where something else stands there.
+#[tactic(auto, unfolding(crate::specs::Read::pointed))]
+fn fraction_of(text: &[u8]) -> Option<&[u8]>
+    ensures { MatchOption result (pointed text.now ≡ false) (λ f. (pointed text.now ≡ true) × (f.now ≡ drop 1 text.now)) }
 {
-    let mut x: u32 = 0;
-    for i in 0..n {
-        x = x * 10 + digit_of(text[from + i]);
+    match text {
+        [] => Some(text),
+        [b'.', digits @ ..] if digit_run(digits) == digits.len() => Some(digits),
+        _ => None,
+    }
+}
+
+// The number that digits write.
+fn number_of(digits: &[u8]) -> u32
+    requires nine { length digits.now ≤ 9 }
+    requires digits { AllDigits digits.now }
+    ensures { (result ≡ number 10 (map digit_of digits.now)) × (result < 10 ^ length digits.now) }
+{
+    let mut x = 0;
+    for c in digits {
+        x = x * 10 + u32::from(*c - b'0');
     }
     x
 }
 
-// Reads whole groups of nine digits from one place to another, and returns the place in the text after them.
-fn take_nines(gs: &mut [u32; 9], text: &[u8], at: usize, from: usize, to: usize) -> usize
-    requires from_le_to { (from ≤ to) × ((to ≤ 9) × (at + 9 * (to - from) ≤ length text.now)) }
-    requires digits_from { DigitsFrom at (9 * (to - from)) text.now × (length gs.old ≡ 9) }
-    ensures value { result ≡ at + 9 * (to - from) }
-    ensures nines { Nines text.now at from to gs.old gs.new }
+// Reads whole groups of nine digits, from one place to another.
+fn take_nines(groups: &mut [u32; 9], from: usize, to: usize, digits: &[u8])
+    requires from_le_to { (from ≤ to) × ((to ≤ 9) × (9 * (to - from) ≤ length digits.now)) }
+    requires digits { AllDigits digits.now }
+    ensures { Nines digits.now from to groups.old groups.new }
 {
-    let mut p = at;
     for k in from..to {
-        gs[k] = number_at(text, p, 9);
-        p += 9;
-    }
-    p
-}
-
-// The groups of the digits from a place on, those of a fraction after the point.
-fn groups_in(text: &[u8], from: usize, intg: usize, frac: usize) -> [u32; 9]
-    requires frac_bound { intg + frac ≤ 65 }
-    requires intg_value { (intg ≡ run (drop from text.now)) × (from + intg ≤ length text.now) }
-    requires text_value { fraction_at (drop (from + intg) text.now) ≡ Fraction.Places frac }
-    ensures { result ≡ tab 9 (stored_at Digits intg frac (digits_in (drop from text.now))) }
-{
-    let s = groups::sides_of(intg, frac);
-    let mut gs = [0u32; 9];
-    gs[0] = number_at(text, from, s.lead);
-    let at = take_nines(&mut gs, text, from + s.lead, s.first, s.point);
-    if 0 < frac {
-        let next = take_nines(&mut gs, text, at + 1, s.point, s.last);
-        let last = s.last;
-        gs[last] = number_at(text, next, s.tail) * groups::power(9 - s.tail);
-    }
-    gs
-}
-
-fn no_numeral(refusal: u8) -> Parsed
-    ensures { result ≡ parsed (no_numeral refusal) }
-{
-    Parsed {
-        refusal,
-        negative: false,
-        intg: 0,
-        frac: 0,
-        groups: [0u32; 9],
+        let at = 9 * (k - from);
+        groups[k] = number_of(&digits[at..at + 9]);
     }
 }
 
-// The numeral that the text from a place on writes, after its sign.
-fn read_unsigned(text: &[u8], from: usize, negative: bool) -> Parsed
-    requires { from ≤ length text.now }
-    ensures { result ≡ parsed (read_unsigned negative (drop from text.now)) }
+// The groups of integral digits and those of a fraction.
+fn groups_in(whole: &[u8], fraction: &[u8]) -> [u32; 9]
+    requires few { length whole.now + length fraction.now ≤ 65 }
+    requires digits { AllDigits whole.now × AllDigits fraction.now }
+    ensures { result
+        ≡ tab 9 (stored_at Digits (length whole.now) (length fraction.now) (map digit_of (whole.now ++ fraction.now))) }
 {
-    let intg = digit_run(text, from);
-    let f = fraction_at(text, from + intg);
-    let Fraction::Places(frac) = f else {
-        return no_numeral(refusal::TEXT);
-    };
-    if intg + frac == 0 {
-        return no_numeral(refusal::TEXT);
+    let s = groups::sides_of(whole.len(), fraction.len());
+    let mut groups = [0; 9];
+    groups[0] = number_of(&whole[..s.lead]);
+    take_nines(&mut groups, s.first, s.point, &whole[s.lead..]);
+    take_nines(&mut groups, s.point, s.last, fraction);
+    let tail = number_of(&fraction[fraction.len() - s.tail..]);
+    groups[s.last] = tail * groups::power(9 - s.tail);
+    groups
+}
+
+// The numeral that a text writes, after its sign.
+fn read_unsigned(text: &[u8], negative: bool) -> Result<Parts, Refusal>
+    ensures { result ≡ parsed (read_unsigned negative text.now) }
+{
+    let (whole, rest) = text.split_at(digit_run(text));
+    let fraction = fraction_of(rest).ok_or(Refusal::Text)?;
+    let digits = whole.len() + fraction.len();
+    if digits == 0 {
+        return Err(Refusal::Text);
     }
-    if 65 < intg + frac {
-        return no_numeral(refusal::DIGITS);
+    if 65 < digits || 30 < fraction.len() {
+        return Err(Refusal::Digits);
     }
-    if 30 < frac {
-        return no_numeral(refusal::DIGITS);
-    }
-    Parsed {
-        refusal: 0,
+    Ok(Parts {
         negative,
-        intg,
-        frac,
-        groups: groups_in(text, from, intg, frac),
-    }
+        intg: whole.len(),
+        frac: fraction.len(),
+        groups: groups_in(whole, fraction),
+    })
 }
 
 // The numeral that the text writes.
-pub fn read(text: &[u8]) -> Parsed
+#[tactic(auto, unfolding(crate::specs::Read::read_text))]
+pub fn read(text: &[u8]) -> Result<Parts, Refusal>
     ensures { result ≡ parsed (read_text text.now) }
 {
-    let at = skip_zeros(text);
-    let negative = is_minus(text, at);
-    let from = skip_sign(text, at);
-    read_unsigned(text, from, negative)
+    let (negative, digits) = split_sign(skip_zeros(text));
+    read_unsigned(digits, negative)
 }

@@ -1,49 +1,33 @@
 -- Numbers of as many digits are in the order of the first place where they differ; and nine groups among seventeen places.
 -- Assumes nothing.
 use mathlib.Core.Path.{◌≡◌, refl, sym, ap, ◌∙◌}
-use mathlib.Core.Bool.{Bool, true, false, cond}
+use mathlib.Core.Bool.{Bool, true, false}
 use mathlib.Core.List.{List, [], ◌∷◌, ◌++◌}
 use mathlib.Core.Logic.{⊎_elim}
 use Prim.Native.Nat.{ℕ, zero, suc, ◌+◌, ◌-◌, ◌*◌, ◌^◌, ◌≤◌, ◌<◌}
-use native.Mathlib.Nat.{le_of_suc-le-suc, not-suc-le-zero, pow-zero, pow-succ', zero-mul, zero-add, mul-le-mul_right, mul-lt-mul_of_pos_right, sub-zero, suc-sub-suc, le_refl, le_of_lt, mul-pos, eq-zero-or-pos}
+use native.Mathlib.Nat.{eq-or-lt_of_le, pow-zero, pow-succ', zero-mul, zero-add, mul-le-mul_right, mul-lt-mul_of_pos_right, le_refl, le_of_lt, mul-pos, eq-zero-or-pos}
 use native.Mathlib.Omega.{arith}
-use lib.Dec.{ltb, lit<, leb-suc-suc}
+use lib.Dec.{ltb, lit<}
 use lib.Pow.{pow-add}
-use lib.Arith.{digits_lt}
 use lib.ListN.{length, get_or, replicate, length-append, length-replicate}
-use lib.Seq.{ext_get_or}
-use borrow.Author.Tests.{lt-ltb, le-ltb, ltb-true, ltb-false}
+use borrow.Author.Tests.{eq-eqb, ne_eqb, lt-ltb, le-ltb, ltb-true, ltb-false}
+use borrow.Rule.Slice.PartMut.{put_mid}
+use Rattle.std.proofs.lemmas.List.{take-replicate, drop-replicate}
 use Rattle.groups.specs.Numbers.{number, Below}
+use Rattle.groups.proofs.Caps.{same_test, below_or_not}
+use Rattle.groups.proofs.Opened.{number_lt}
+use Rattle.groups.proofs.Radix.{below-append}
 use Rattle.order.specs.Value.{magnitude}
 use Rattle.order.specs.Course.{placed, order_n}
-use Rattle.order.specs.declared.Compared.TheVariants.{Less, Equal, Greater}
+use Rattle.std.specs.declared.cmp.Ordering.TheVariants.{Less, Equal, Greater}
+use Rattle.std.specs.Ordering.{nat_cmp}
+use Rattle.std.specs.Cmp.Lexicographic.{slice_cmp}
 
 pub pow-pos-of : (b n : ℕ) → 0 < b → 0 < b ^ n
 pow-pos-of b zero h = rw pow-zero (lit< tt)
 pow-pos-of b (suc n) h = rw pow-succ' (mul-pos h (pow-pos-of b n h))
 
 module _ (b : ℕ) where
-  pub number_lt : (xs : List ℕ) → Below b xs → number b xs < b ^ length xs
-  unfolding number
-  number_lt [] h = rw pow-zero (lit< tt)
-  number_lt (x ∷ xs) h = rw pow-succ' (digits_lt (h 0) (number_lt xs (λ k. h (suc k))))
-
-  pub lex : (xs ys : List ℕ) → length xs ≡ length ys → Below b xs → (k : ℕ) → k < length xs
-      → ((j : ℕ) → j < k → get_or xs j 0 ≡ get_or ys j 0) → get_or xs k 0 < get_or ys k 0 → number b xs < number b ys
-  unfolding number
-  lex [] ys e h k l same d = absurd (not-suc-le-zero l)
-  lex (x ∷ xs) [] e h k l same d = absurd (not-suc-le-zero d)
-  lex (x ∷ xs) (y ∷ ys) e h zero l same d =
-      let n : length xs ≡ length ys = omega arith in
-      let r = number_lt xs (λ j. h (suc j)) in
-      let m = mul-le-mul_right (b ^ length xs) d in
-      rw (← n) (omega arith)
-  lex (x ∷ xs) (y ∷ ys) e h (suc k) l same d =
-      let n : length xs ≡ length ys = omega arith in
-      let r = lex xs ys n (λ j. h (suc j)) k (le_of_suc-le-suc l) (λ j m. same (suc j) (omega arith)) d in
-      let q : x ≡ y = same 0 (omega arith) in
-      rw (← n, ← q) (omega arith)
-
   pub zeros-before : (n : ℕ) (xs : List ℕ) → number b (replicate n 0 ++ xs) ≡ number b xs
   unfolding number
   zeros-before zero xs = refl
@@ -75,29 +59,13 @@ at_after [] n j = zero-at n j
 at_after (g ∷ gs) n zero = refl
 at_after (g ∷ gs) n (suc j) = at_after gs n j
 
-at_before : (m : ℕ) (xs : List ℕ) (k : ℕ) → get_or (replicate m 0 ++ xs) k 0 ≡ cond (ltb k m) 0 (get_or xs (k - m) 0)
-at_before zero xs k = rw (sub-zero k) (simp (le-ltb k 0 (omega arith)))
-at_before (suc m) xs zero = simp (lt-ltb 0 (suc m) (omega arith))
-at_before (suc m) xs (suc k) = rw (suc-sub-suc k m) (at_before m xs k ∙ simp (leb-suc-suc (suc k) m))
+zeros-below : (n : ℕ) → Below 1000000000 (replicate n 0)
+zeros-below n k = rw (zero-at n k) (lit< tt)
 
-pub placed_at : (n : ℕ) (gs : List ℕ) (k : ℕ) → n ≤ 8 → get_or (placed n gs) k 0 ≡ cond (ltb (k + n) 8) 0 (get_or gs (k + n - 8) 0)
+pub placed_below : (n : ℕ) (gs : List ℕ) → Below 1000000000 gs → Below 1000000000 (placed n gs)
 unfolding placed
-placed_at n gs k h =
-    at_before (8 - n) (gs ++ replicate n 0) k ∙ ap (λ (x : ℕ). cond (ltb k (8 - n)) 0 x) (at_after gs n (k - (8 - n))) ∙ go (ltb (k + n) 8) refl
-  where
-    go : (t : Bool) → ltb (k + n) 8 ≡ t → cond (ltb k (8 - n)) 0 (get_or gs (k - (8 - n)) 0) ≡ cond t 0 (get_or gs (k + n - 8) 0)
-    go true e = let l = ltb-true (k + n) 8 e in simp (lt-ltb k (8 - n) (omega arith))
-    go false e =
-        let l = ltb-false (k + n) 8 e in
-        let q : k - (8 - n) ≡ k + n - 8 = omega arith in
-        simp (le-ltb k (8 - n) (omega arith), q)
-
-pub placed_below : (n : ℕ) (gs : List ℕ) → n ≤ 8 → Below 1000000000 gs → Below 1000000000 (placed n gs)
-placed_below n gs l h k = rw (placed_at n gs k l) (go (ltb (k + n) 8))
-  where
-    go : (t : Bool) → cond t 0 (get_or gs (k + n - 8) 0) < 1000000000
-    go true = lit< tt
-    go false = h (k + n - 8)
+placed_below n gs h =
+    below-append 1000000000 (replicate (8 - n) 0) (gs ++ replicate n 0) (zeros-below (8 - n)) (below-append 1000000000 gs (replicate n 0) h (zeros-below n))
 
 pub placed-length : (n : ℕ) (gs : List ℕ) → n ≤ 8 → length gs ≡ 9 → length (placed n gs) ≡ 17
 unfolding placed
@@ -109,22 +77,6 @@ pub equal : (x : ℕ) → order_n x x ≡ Equal
 unfolding order_n
 equal x = simp (le-ltb x x (le_refl x))
 
--- ---- what the loop over the places shows
-module _ (m : ℕ) (a : List ℕ) (n : ℕ) (b : List ℕ) (lm : m ≤ 8) (ln : n ≤ 8) (ea : length a ≡ 9) (eb : length b ≡ 9) where
-  pub same-places : ((j : ℕ) → j < 17 → get_or (placed m a) j 0 ≡ get_or (placed n b) j 0) → order_n (magnitude m a) (magnitude n b) ≡ Equal
-  unfolding order_n
-  same-places h =
-      let e = ext_get_or 0 (placed m a) (placed n b) (placed-length m a lm ea ∙ sym (placed-length n b ln eb)) (λ j l. h j (rw (placed-length m a lm ea) at l)) in
-      let q = sym (placed-number m a) ∙ ap (number 1000000000) e ∙ placed-number n b in
-      rw q (equal (magnitude n b))
-
-  pub less-at : Below 1000000000 a → (k : ℕ) → k < 17 → ((j : ℕ) → j < k → get_or (placed m a) j 0 ≡ get_or (placed n b) j 0)
-      → get_or (placed m a) k 0 < get_or (placed n b) k 0 → magnitude m a < magnitude n b
-  less-at h k l same d =
-      rw (← placed-number m a, ← placed-number n b)
-      (lex 1000000000 (placed m a) (placed n b) (placed-length m a lm ea ∙ sym (placed-length n b ln eb)) (placed_below m a lm h) k
-      (rw (placed-length m a lm ea) l) same d)
-
 pub less : (x y : ℕ) → x < y → order_n x y ≡ Less
 unfolding order_n
 less x y h = simp (lt-ltb x y h)
@@ -133,9 +85,40 @@ pub greater : (x y : ℕ) → y < x → order_n x y ≡ Greater
 unfolding order_n
 greater x y h = simp (le-ltb x y (le_of_lt h), lt-ltb y x h)
 
-pub same-groups : (xs ys : List ℕ) → length xs ≡ length ys → ((j : ℕ) → j < length xs → get_or xs j 0 ≡ get_or ys j 0)
-    → order_n (number 1000000000 xs) (number 1000000000 ys) ≡ Equal
-same-groups xs ys e h = rw (ext_get_or 0 xs ys e h) (equal (number 1000000000 ys))
+shifted : (c x y : ℕ) → order_n (c + x) (c + y) ≡ order_n x y
+unfolding order_n
+shifted c x y = rw (moved c x y, moved c y x) refl
+  where
+    moved : (c x y : ℕ) → ltb (c + x) (c + y) ≡ ltb x y
+    moved c x y = same_test (ltb (c + x) (c + y)) (ltb x y) (λ e. let l = ltb-true (c + x) (c + y) e in lt-ltb x y (omega arith)) (λ e. let l = ltb-true x y e in lt-ltb (c + x) (c + y) (omega arith))
+
+-- ---- the first place where two lists differ decides, as it does where the library compares them
+module _ (b : ℕ) where
+  leads : (x y u v p : ℕ) → x < y → u < p → x * p + u < y * p + v
+  leads x y u v p h l = let m = mul-le-mul_right p h in omega arith
+
+  pub cmp-is : (xs ys : List ℕ) → length xs ≡ length ys → Below b xs → Below b ys → slice_cmp nat_cmp xs ys ≡ order_n (number b xs) (number b ys)
+  unfolding number
+  cmp-is [] [] e hx hy = sym (equal 0)
+  cmp-is [] (y ∷ ys) e hx hy = absurd (omega arith)
+  cmp-is (x ∷ xs) [] e hx hy = absurd (omega arith)
+  cmp-is (x ∷ xs) (y ∷ ys) e hx hy =
+      ⊎_elim
+      (λ (l : x < y). simp (lt-ltb x y l) (sym (less _ _ (rw (← n) (leads x y _ _ _ l p)))))
+      (λ (g : y ≤ x). ⊎_elim
+      (λ (e : y ≡ x). rw e (simp (le-ltb x x (le_refl x), eq-eqb x x refl) (rw (n, shifted (x * b ^ length ys) (number b xs) (number b ys)) (cmp-is xs ys n (λ k. hx (suc k)) (λ k. hy (suc k))))))
+      (λ (l : y < x). simp (le-ltb x y g, ne_eqb x y (λ (e : x ≡ y). omega arith)) (sym (greater _ _ (rw (← n) (leads y x _ _ _ l q)))))
+      (eq-or-lt_of_le g))
+      (below_or_not x y)
+    where
+      n : length xs ≡ length ys
+      n = omega arith
+
+      p : number b xs < b ^ length xs
+      p = number_lt b xs (λ k. hx (suc k))
+
+      q : number b ys < b ^ length xs
+      q = rw n (number_lt b ys (λ k. hy (suc k)))
 
 -- ---- points that meet: the same factor on both sides does not change the order
 scaled : (x y c : ℕ) → 0 < c → ltb (x * c) (y * c) ≡ ltb x y
@@ -163,3 +146,11 @@ pub all-zero : (b : ℕ) (xs : List ℕ) → ((k : ℕ) → k < length xs → ge
 unfolding number
 all-zero b [] h = refl
 all-zero b (x ∷ xs) h = rw (h 0 (omega arith), zero-mul, zero-add) (all-zero b xs (λ k l. h (suc k) (omega arith)))
+
+-- ---- zeros, and the groups written over them from the first place on
+pub placed-written : (n : ℕ) (gs : List ℕ) → n ≤ 8 → put_mid (8 - n) (8 - n + 9 - (8 - n)) (replicate 17 0) gs ≡ placed n gs
+unfolding placed
+placed-written n gs h =
+    let q : 17 - (8 - n) - (8 - n + 9 - (8 - n)) ≡ n = omega arith in
+    let t = take-replicate {X = ℕ} (8 - n) 17 0 (omega arith) in
+    rw (t, drop-replicate, drop-replicate, q) refl

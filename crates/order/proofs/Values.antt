@@ -15,7 +15,7 @@ use Rattle.groups.proofs.Caps.{same_test}
 use Rattle.groups.proofs.Sign.{nought-of, nought-each}
 use Rattle.order.specs.Value.{magnitude, signed, order_z}
 use Rattle.order.specs.Course.{order_n}
-use Rattle.order.specs.declared.Compared.TheVariants.{Less, Greater}
+use Rattle.std.specs.declared.cmp.Ordering.TheVariants.{Less, Greater}
 use Rattle.order.proofs.Lex.{pow-pos-of, all-zero, zero-each}
 
 -- ---- signs

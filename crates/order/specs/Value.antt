@@ -1,13 +1,15 @@
 -- The value of a decimal is a number: a sign and a natural at a fixed scale. Comparison is by value, so 1 equals 1.0.
 -- Assumes nothing.
-use Rattle.std.specs.Prelude.{ℕ, ◌*◌, ◌^◌, Bool, true, false, cond, List, [], ◌∷◌, ℤ, pos, neg_ℤ}
+use Rattle.std.specs.Prelude.{ℕ, ◌*◌, ◌^◌, Bool, true, false, cond, List, [], ◌∷◌, ℤ, pos, neg_ℤ, Result, Ok}
+use Rattle.std.specs.declared.cmp.Ordering.{Ordering}
+use Rattle.std.specs.declared.cmp.Ordering.TheVariants.{Less, Equal, Greater}
 use Rattle.std.specs.Int.Signed.{lt_z}
-use Rattle.refusal.specs.Told.{Told, answer, refusal}
+use Rattle.refusal.specs.declared.Refusal.{Refusal}
+use Rattle.refusal.specs.Told.{Told, refusal, told_by}
 use Rattle.groups.specs.Numbers.{number, both}
 use Rattle.groups.specs.Layout.{groups_of}
 use Rattle.groups.specs.Write.{well_formed}
-use Rattle.order.specs.declared.Compared.{Compared}
-use Rattle.order.specs.declared.Compared.TheVariants.{Less, Equal, Greater, Refused}
+use Rattle.groups.specs.declared.Parts.{Parts}
 
 -- With n integral groups the group at place k counts 10 ^ (9 * (n - 1 - k)): so this is the magnitude times 10 ^ 81.
 unfoldable pub magnitude : ℕ → List ℕ → ℕ
@@ -21,18 +23,27 @@ signed false m = pos m
 abbrev pub value_of : Bool → ℕ → List ℕ → ℤ
 value_of neg i gs = signed neg (magnitude (groups_of i) gs)
 
--- an answer of the comparison: less, equal and greater are told by 0, 1 and 2
-abbrev pub told : Compared → Told
-told Less = answer (0 ∷ [])
-told Equal = answer (1 ∷ [])
-told Greater = answer (2 ∷ [])
-told (Refused n) = refusal n
+-- less, equal and greater are told by 0, 1 and 2
+abbrev pub number_of : Ordering → ℕ
+number_of Less = 0
+number_of Equal = 1
+number_of Greater = 2
+
+-- an answer of the comparison
+abbrev pub told : Result Ordering Refusal → Told
+told r = told_by (λ o. number_of o ∷ []) r
 
 -- the order of two values
-unfoldable pub order_z : ℤ → ℤ → Compared
+unfoldable pub order_z : ℤ → ℤ → Ordering
 order_z x y = cond (lt_z x y) Less (cond (lt_z y x) Greater Equal)
 
--- of two decimals, each by its sign, its digits before and after the point, and its groups: less, equal or greater by value, or 26
-unfoldable pub compare_told : Bool → ℕ → ℕ → List ℕ → Bool → ℕ → ℕ → List ℕ → Told
-compare_told na ia fa ga nb ib fb gb =
-    cond (both (well_formed na ia fa ga) (well_formed nb ib fb gb)) (told (order_z (value_of na ia ga) (value_of nb ib gb))) (refusal 26)
+-- a sign, digits and groups are those of a decimal; and its value
+abbrev pub is_well : Parts → Bool
+is_well p = well_formed p.negative p.intg p.frac p.groups
+
+abbrev pub value : Parts → ℤ
+value p = value_of p.negative p.intg p.groups
+
+-- of two decimals: less, equal or greater by value, or 26
+unfoldable pub compare_told : Parts → Parts → Told
+compare_told a b = cond (both (is_well a) (is_well b)) (told (Ok (order_z (value a) (value b)))) (refusal 26)

@@ -5,11 +5,11 @@ use mathlib.Core.Bool.{Bool, true, false}
 use mathlib.Core.List.{List, [], ◌∷◌, ◌++◌, map, map-append, append_assoc, append-nil}
 use Prim.Native.Nat.{ℕ, zero, suc, ◌+◌, ◌-◌, ◌*◌, ◌/◌, ◌%◌, ◌^◌, ◌≤◌, ◌<◌}
 use native.Mathlib.Nat.{pow-zero, pow-succ', pow-le-pow_right, div-one, le_of_eq, le_refl, add-suc}
-use native.Mathlib.Numerals.{one-add}
+use native.Mathlib.Numerals.{one-add, add-one}
 use native.Mathlib.Omega.{arith}
 use lib.Dec.{eqb, leb, ltb, lit<}
 use lib.ListN.{length, get_or, take, drop, set, length-append, length-map, get_or-append}
-use lib.Seq.{take_at, drop_at, take_all, length-take-le, take-set-le, drop-cons, drop-set-lt, get_or-set_same, lt-length-set}
+use lib.Seq.{set_split, take_at, drop_at, take_all, length-take-le, take-set-le, drop-cons, drop-set-lt, get_or-set_same, lt-length-set}
 use borrow.Author.Tests.{lt-ltb, le-ltb, eq-eqb, ne_eqb, leb-true, leb-false, ltb-true}
 use Rattle.groups.specs.Numbers.{digits, all}
 use Rattle.groups.specs.Layout.{groups_of, side, digits_at, Digits}
@@ -363,6 +363,10 @@ put-shown out at i x h =
     drop-cons (set out (at + i) v) (at + i) 0 (lt-length-set out (at + i) v h)
     ∙ rw (get_or-set_same out (at + i) v 0 h, drop-set-lt (suc (at + i)) out (at + i) v (le_refl (suc (at + i)))) in
     rw (take-set-le at out (at + i) v m, d, map-append show (digits 10 i (x / 10)) (x % 10 ∷ []), append_assoc, add-suc at i)
+
+-- one character
+pub put-one : (out : List ℕ) (at v : ℕ) → at < length out → set out at v ≡ take at out ++ (v ∷ drop (at + 1) out)
+put-one out at v h = set_split out at v h ∙ rw add-one
 
 -- ---- one part after another, as one text: a second in the middle of an output, and a second and a third at its front
 after : (A B out : List ℕ) (at a b : ℕ) → length A ≡ a → at ≤ length out

@@ -9,14 +9,9 @@ ghost use Rattle.groups.specs.Layout.{Digits};
 ghost use Rattle.printing.specs.Print.{show, sign_text, text_of, print_told, print_leaves};
 ghost use Rattle.printing.specs.Course.{nines, whole_text, whole_length, point_text, fraction_length, Significant};
 
-use groups::Counted;
-
-fn put_byte(out: &mut [u8], at: usize, b: u8)
-    requires { at < length out.old }
-    ensures { out.new ≡ take at out.old ++ (b ∷ drop (at + 1) out.old) }
-{
-    out[at] = b;
-}
+use formed::Formed;
+use groups::Parts;
+use refusal::Refusal;
 
 // The character of the last digit.
 fn last_shown(x: u32) -> u8
@@ -30,18 +25,16 @@ fn put_group(out: &mut [u8], at: usize, w: usize, x: u32)
     requires { at + w ≤ length out.old }
     ensures { out.new ≡ take at out.old ++ (map show (digits 10 w x) ++ drop (at + w) out.old) }
 {
-    let mut i = w;
     let mut rest = x;
-    while 0 < i {
-        i -= 1;
+    for i in (0..w).rev() {
         out[at + i] = last_shown(rest);
-        rest = rest / 10;
+        rest /= 10;
     }
 }
 
 // Prints whole groups, from one place to another, from `at` on, and returns the place after them.
 fn put_nines(out: &mut [u8], at: usize, groups: &[u32; 9], from: usize, to: usize) -> usize
-    requires from_le_to { ((from ≤ to) × (to ≤ 9)) × (length groups.now ≡ 9) }
+    requires from_le_to { (from ≤ to) × (to ≤ 9) }
     requires from_in_bounds { at + 9 * (to - from) ≤ length out.old }
     ensures value { result ≡ at + 9 * (to - from) }
     ensures out_after { out.new ≡ take at out.old ++ (map show (nines groups.now from (to - from)) ++ drop result out.old) }
@@ -59,63 +52,10 @@ fn significant(g: u32) -> usize
     requires { g < 1000000000 }
     ensures { Significant result g }
 {
-    if g < 10 {
-        return 1;
+    match g.checked_ilog10() {
+        None => 1,
+        Some(k) => k as usize + 1,
     }
-    if g < 100 {
-        return 2;
-    }
-    if g < 1000 {
-        return 3;
-    }
-    if g < 10000 {
-        return 4;
-    }
-    if g < 100000 {
-        return 5;
-    }
-    if g < 1000000 {
-        return 6;
-    }
-    if g < 10000000 {
-        return 7;
-    }
-    if g < 100000000 {
-        return 8;
-    }
-    9
-}
-
-// The d highest digits of a group of nine.
-fn top(g: u32, d: usize) -> u32
-    requires { (1 ≤ d) × (d ≤ 9) }
-    ensures { result ≡ g / 10 ^ (9 - d) }
-{
-    if d == 1 {
-        return g / 100000000;
-    }
-    if d == 2 {
-        return g / 10000000;
-    }
-    if d == 3 {
-        return g / 1000000;
-    }
-    if d == 4 {
-        return g / 100000;
-    }
-    if d == 5 {
-        return g / 10000;
-    }
-    if d == 6 {
-        return g / 1000;
-    }
-    if d == 7 {
-        return g / 100;
-    }
-    if d == 8 {
-        return g / 10;
-    }
-    g
 }
 
 // Prints the sign, and returns the place after it.
@@ -125,7 +65,7 @@ fn put_sign(out: &mut [u8], sign: bool) -> usize
     ensures out_after { out.new ≡ sign_text sign ++ drop result out.old }
 {
     if sign {
-        put_byte(out, 0, 45);
+        out[0] = b'-';
         return 1;
     }
     0
@@ -133,13 +73,13 @@ fn put_sign(out: &mut [u8], sign: bool) -> usize
 
 // Prints n integral groups from `at` on, the first of them w digits wide, and returns the place after them.
 fn put_whole(out: &mut [u8], at: usize, n: usize, w: usize, groups: &[u32; 9]) -> usize
-    requires n_bound { (n ≤ 9) × (length groups.now ≡ 9) }
+    requires n_bound { n ≤ 9 }
     requires w_in_bounds { at + whole_length n w ≤ length out.old }
     ensures value { result ≡ at + whole_length n w }
     ensures out_after { out.new ≡ take at out.old ++ (whole_text n w groups.now ++ drop result out.old) }
 {
     if n == 0 {
-        put_byte(out, at, 48);
+        out[at] = b'0';
         return at + 1;
     }
     put_group(out, at, w, groups[0]);
@@ -148,7 +88,7 @@ fn put_whole(out: &mut [u8], at: usize, n: usize, w: usize, groups: &[u32; 9]) -
 
 // Prints a fraction, whose groups begin at place n, from `at` on, and returns the place after it.
 fn put_fraction(out: &mut [u8], at: usize, n: usize, frac: usize, groups: &[u32; 9]) -> usize
-    requires frac_bound { ((n + (frac + 8) / 9 ≤ 9) × (frac ≤ 30)) × (length groups.now ≡ 9) }
+    requires frac_bound { (n + (frac + 8) / 9 ≤ 9) × (frac ≤ 30) }
     requires frac_in_bounds { at + fraction_length frac ≤ length out.old }
     ensures value { result ≡ at + fraction_length frac }
     ensures out_after { out.new ≡ take at out.old ++ (point_text n frac groups.now ++ drop result out.old) }
@@ -156,15 +96,16 @@ fn put_fraction(out: &mut [u8], at: usize, n: usize, frac: usize, groups: &[u32;
     if frac == 0 {
         return at;
     }
-    put_byte(out, at, 46);
+    out[at] = b'.';
     let m = (frac - 1) / 9;
     let b = put_nines(out, at + 1, groups, n, n + m);
     let d = frac - 9 * m;
-    put_group(out, b, d, top(groups[n + m], d));
+    put_group(out, b, d, groups[n + m] / groups::power(9 - d));
     b + d
 }
 
 // How many characters n integral groups have.
+#[tactic(auto, unfolding(crate::specs::Course::whole_length))]
 fn whole_len(n: usize, w: usize) -> usize
     requires { (n ≤ 9) × (w ≤ 9) }
     ensures { (result ≡ whole_length n w) × (result ≤ 81) }
@@ -173,6 +114,7 @@ fn whole_len(n: usize, w: usize) -> usize
 }
 
 // How many characters a fraction has, its point among them.
+#[tactic(auto, unfolding(crate::specs::Course::fraction_length))]
 fn fraction_len(frac: usize) -> usize
     requires { frac ≤ 30 }
     ensures { (result ≡ fraction_length frac) × (result ≤ frac + 1) }
@@ -181,6 +123,7 @@ fn fraction_len(frac: usize) -> usize
 }
 
 // How many characters a text has whose integral digits have so many.
+#[tactic(auto, unfolding(crate::specs::Course::fraction_length))]
 fn text_len(sign: bool, whole: usize, frac: usize) -> usize
     requires { (whole ≤ 81) × (frac ≤ 30) }
     ensures { result ≡ length (sign_text sign) + (whole + fraction_length frac) }
@@ -189,30 +132,28 @@ fn text_len(sign: bool, whole: usize, frac: usize) -> usize
     if sign { 1 + n } else { n }
 }
 
-// Prints well formed groups and a sign to the front of the output, and counts the characters. A refusal changes nothing.
-fn print_well(out: &mut [u8], sign: bool, intg: usize, frac: usize, groups: &[u32; 9]) -> Counted
-    requires { (well_groups intg frac groups.now ≡ true) × (length groups.now ≡ 9) }
-    ensures result_value { told result ≡ room_told (text_of sign intg frac (digits_to Digits intg frac groups.now 9)) out.old }
-    ensures out_after { out.new ≡ room_leaves (text_of sign intg frac (digits_to Digits intg frac groups.now 9)) out.old }
+// Prints a decimal to the front of the output, and counts the characters. A refusal changes nothing.
+fn print_well(out: &mut [u8], d: Formed<'_>) -> Result<usize, Refusal>
+    ensures result_value { told result ≡ room_told (text_of d.entry.parts.now.negative d.entry.parts.now.intg d.entry.parts.now.frac (digits_to Digits d.entry.parts.now.intg d.entry.parts.now.frac d.entry.parts.now.groups 9)) out.old }
+    ensures out_after { out.new ≡ room_leaves (text_of d.entry.parts.now.negative d.entry.parts.now.intg d.entry.parts.now.frac (digits_to Digits d.entry.parts.now.intg d.entry.parts.now.frac d.entry.parts.now.groups 9)) out.old }
 {
-    let n = (intg + 8) / 9;
-    let w = significant(groups[0]);
-    let size = text_len(sign, whole_len(n, w), frac);
+    let p = d.parts;
+    let n = p.intg.div_ceil(9);
+    let w = significant(p.groups[0]);
+    let size = text_len(p.negative, whole_len(n, w), p.frac);
     if out.len() < size {
-        return Counted::Refused(refusal::ROOM);
+        return Err(Refusal::Room);
     }
-    let a = put_sign(out, sign);
-    let b = put_whole(out, a, n, w, groups);
-    Counted::Bytes(put_fraction(out, b, n, frac, groups))
+    let a = put_sign(out, p.negative);
+    let b = put_whole(out, a, n, w, &p.groups);
+    Ok(put_fraction(out, b, n, p.frac, &p.groups))
 }
 
 // Prints the groups of a decimal to the front of the output, and counts the characters. A refusal changes nothing.
-pub fn print(out: &mut [u8], sign: bool, intg: usize, frac: usize, groups: [u32; 9]) -> Counted
-    ensures result_value { told result ≡ print_told sign intg frac groups out.old }
-    ensures out_after { out.new ≡ print_leaves sign intg frac groups out.old }
+#[tactic(auto, unfolding(crate::specs::Print::print_told, crate::specs::Print::print_leaves))]
+pub fn print(out: &mut [u8], parts: &Parts) -> Result<usize, Refusal>
+    ensures result_value { told result ≡ print_told parts.now.negative parts.now.intg parts.now.frac parts.now.groups out.old }
+    ensures out_after { out.new ≡ print_leaves parts.now.negative parts.now.intg parts.now.frac parts.now.groups out.old }
 {
-    if !formed::well_formed(sign, intg, frac, &groups) {
-        return Counted::Refused(refusal::RECORD);
-    }
-    print_well(out, sign, intg, frac, &groups)
+    print_well(out, Formed::new(parts)?)
 }

@@ -4,48 +4,21 @@ use mathlib.Core.Path.{◌≡◌, refl, sym, ap, ◌∙◌}
 use mathlib.Core.Bool.{Bool, true, false}
 use mathlib.Core.Logic.{⊎_elim}
 use mathlib.Core.List.{List, [], ◌∷◌, map}
-use Prim.Native.Nat.{ℕ, zero, suc, ◌+◌, ◌-◌, ◌*◌, ◌^◌, ◌≤◌, ◌<◌}
-use native.Mathlib.Nat.{pow-zero, pow-suc, mul-le-mul_right, add-mul, le_of_suc-le-suc, not-suc-le-zero, zero-add, add-zero}
-use native.Mathlib.Numerals.{add-one}
+use Prim.Native.Nat.{ℕ, zero, suc, ◌+◌, ◌-◌, ◌*◌, ◌/◌, ◌^◌, ◌≤◌, ◌<◌}
+use native.Mathlib.Nat.{pow-zero, pow-suc, mul-le-mul_right, add-mul, le_of_suc-le-suc, not-suc-le-zero, zero-add}
 use native.Mathlib.Omega.{arith}
-use lib.Dec.{lit<}
-use lib.ListN.{length, get_or, take, drop, length-map, length-drop}
-use lib.Seq.{take-suc, get_or-drop, length-take-le}
+use lib.Dec.{lit≤}
+use lib.ListN.{length, take, drop, length-map, length-drop}
+use lib.Seq.{length-take-le}
 use borrow.Author.Tests.{lt-ltb, le-ltb, ne_eqb}
 use Rattle.groups.specs.Numbers.{number, Below}
 use Rattle.groups.specs.Layout.{form_of}
 use Rattle.groups.specs.Packed.{flip, flip_first, invert, digits_in}
 use Rattle.groups.proofs.Marks.{length-flip}
-use Rattle.groups.proofs.Radix.{more, one_below, below-append}
 use Rattle.groups.proofs.Tab.{take-map, drop-map}
-use Rattle.groups.proofs.Opened.{number_lt}
+use Rattle.groups.proofs.Opened.{number_lt, below-take, below-drop}
 use Rattle.groups.proofs.Caps.{below_or_not}
-use Rattle.reading.specs.Course.{Bytes, flip_by, begins, shown}
-
--- ---- one byte more
-pub none : (bs : List ℕ) (at : ℕ) → Bytes bs at 0 0
-unfolding number
-none bs at = record { is = refl; below = λ k. lit< tt }
-
-pub grown : (bs : List ℕ) (at w x y : ℕ) → at + w < length bs → Bytes bs at w x → y ≡ get_or bs (at + w) 0 → y < 256 → Bytes bs at (w + 1) (x * 256 + y)
-grown bs at w x y h b e l = record { is = i; below = j }
-  where
-    i : x * 256 + y ≡ number 256 (take (w + 1) (drop at bs))
-    i = rw (b.is, e) (sym (more 256 bs at w h))
-
-    m : w < length (drop at bs)
-    m = simp length-drop (omega arith)
-
-    j : Below 256 (take (w + 1) (drop at bs))
-    j = rw (add-one w, take-suc (drop at bs) w 0 m, get_or-drop) (below-append 256 (take w (drop at bs)) (get_or bs (at + w) 0 ∷ []) b.below (one_below 256 (get_or bs (at + w) 0) (rw e at l)))
-
-pub byte : (bs : List ℕ) (at y : ℕ) → at < length bs → y ≡ get_or bs at 0 → y < 256 → Bytes bs at 1 y
-byte bs at y h e l = rw (zero-add y) at (grown bs at 0 0 y (rw add-zero h) (none bs at) (rw add-zero e) l)
-
-pub bytes_lt : (bs : List ℕ) (at w x : ℕ) → at + w ≤ length bs → Bytes bs at w x → x < 256 ^ w
-bytes_lt bs at w x h b =
-    let e : length (take w (drop at bs)) ≡ w = length-take-le w (drop at bs) (simp length-drop (omega arith)) in
-    rw b.is (rw e at (number_lt 256 (take w (drop at bs)) b.below))
+use Rattle.reading.specs.Course.{flip_by, begins, shown}
 
 -- ---- the first bit flipped
 weighed : (P b t : ℕ) → t < P → flip_by (128 * P) (b * P + t) ≡ flip b * P + t
@@ -73,20 +46,19 @@ flip-past [] at h = refl
 flip-past (b ∷ bs) zero h = absurd (not-suc-le-zero h)
 flip-past (b ∷ bs) (suc at) h = refl
 
-flip-number : (bs : List ℕ) (w x : ℕ) → suc w ≤ length bs → Bytes bs 0 (suc w) x → number 256 (take (suc w) (flip_first bs)) ≡ flip_by (128 * 256 ^ w) x
+flip-number : (bs : List ℕ) (w : ℕ) → suc w ≤ length bs → Below 256 bs → number 256 (take (suc w) (flip_first bs)) ≡ flip_by (128 * 256 ^ w) (number 256 (take (suc w) bs))
 unfolding flip_first number
-flip-number [] w x h e = absurd (not-suc-le-zero h)
-flip-number (b ∷ bs) w x h e =
+flip-number [] w h e = absurd (not-suc-le-zero h)
+flip-number (b ∷ bs) w h e =
     let l : length (take w bs) ≡ w = length-take-le w bs (le_of_suc-le-suc h) in
-    let t = number_lt 256 (take w bs) (λ k. e.below (suc k)) in
-    rw (e.is, l) (sym (weighed (256 ^ w) b (number 256 (take w bs)) (rw l at t)))
+    let t = number_lt 256 (take w bs) (below-take 256 w bs (λ k. e (suc k))) in
+    rw l (sym (weighed (256 ^ w) b (number 256 (take w bs)) (rw l at t)))
 
-flip-below : (bs : List ℕ) (n : ℕ) → Below 256 (take n bs) → Below 256 (take n (flip_first bs))
+flip-below : (bs : List ℕ) → Below 256 bs → Below 256 (flip_first bs)
 unfolding flip_first
-flip-below [] n h k = h k
-flip-below (b ∷ bs) zero h k = h k
-flip-below (b ∷ bs) (suc n) h zero = flip-lt b (h 0)
-flip-below (b ∷ bs) (suc n) h (suc k) = h (suc k)
+flip-below [] h k = h k
+flip-below (b ∷ bs) h zero = flip-lt b (h 0)
+flip-below (b ∷ bs) h (suc k) = h (suc k)
 
 -- ---- all bits inverted
 invert-sum : (zs : List ℕ) → Below 256 zs → number 256 (map invert zs) + number 256 zs + 1 ≡ 256 ^ length zs
@@ -104,23 +76,47 @@ pub invert-number : (zs : List ℕ) → Below 256 zs → number 256 (map invert 
 invert-number zs h = let e = invert-sum zs h in omega arith
 
 -- ---- a group's number, of its bytes
-module _ (bs : List ℕ) (w x : ℕ) where
-  flipped-number : (at : ℕ) → at + suc w ≤ length bs → Bytes bs at (suc w) x → number 256 (take (suc w) (drop at (flip_first bs))) ≡ begins at (128 * 256 ^ w) x
+module _ (bs : List ℕ) (w : ℕ) (b : Below 256 bs) where
+  flipped-number : (at : ℕ) → at + suc w ≤ length bs → number 256 (take (suc w) (drop at (flip_first bs))) ≡ begins at (128 * 256 ^ w) (number 256 (take (suc w) (drop at bs)))
   unfolding begins
-  flipped-number zero h e = flip-number bs w x (rw zero-add at h) e
-  flipped-number (suc at) h e =
+  flipped-number zero h = flip-number bs w (rw zero-add at h) b
+  flipped-number (suc at) h =
       let n : (suc at ≡ 0) → ⊥ = λ q. omega arith in
-      ap (λ (l : List ℕ). number 256 (take (suc w) l)) (flip-past bs (suc at) (omega arith)) ∙ sym e.is ∙ sym (simp (ne_eqb (suc at) 0 n))
+      ap (λ (l : List ℕ). number 256 (take (suc w) l)) (flip-past bs (suc at) (omega arith)) ∙ sym (simp (ne_eqb (suc at) 0 n))
 
-  flipped_below : (at : ℕ) → Bytes bs at (suc w) x → Below 256 (take (suc w) (drop at (flip_first bs)))
-  flipped_below zero e = flip-below bs (suc w) e.below
-  flipped_below (suc at) e = rw (flip-past bs (suc at) (omega arith)) e.below
-
-  pub of-bytes : (v : Bool) (at : ℕ) → at + suc w ≤ length bs → Bytes bs at (suc w) x
-      → shown v at (128 * 256 ^ w) (256 ^ suc w - 1) x ≡ number 256 (take (suc w) (drop at (digits_in (form_of v) bs)))
+  pub of-bytes : (v : Bool) (at : ℕ) → at + suc w ≤ length bs
+      → shown v at (128 * 256 ^ w) (256 ^ suc w - 1) (number 256 (take (suc w) (drop at bs))) ≡ number 256 (take (suc w) (drop at (digits_in (form_of v) bs)))
   unfolding shown digits_in
-  of-bytes false at h e = sym (flipped-number at h e)
-  of-bytes true at h e =
+  of-bytes false at h = sym (flipped-number at h)
+  of-bytes true at h =
       let zs = take (suc w) (drop at (flip_first bs)) in
       let l : length zs ≡ suc w = length-take-le (suc w) (drop at (flip_first bs)) (simp (length-drop, length-flip bs) (omega arith)) in
-      sym (rw (drop-map invert at (flip_first bs), take-map invert (suc w) (drop at (flip_first bs)), invert-number zs (flipped_below at e), l, flipped-number at h e))
+      let d = below-take 256 (suc w) (drop at (flip_first bs)) (below-drop 256 at (flip_first bs) (flip-below bs b)) in
+      sym (rw (drop-map invert at (flip_first bs), take-map invert (suc w) (drop at (flip_first bs)), invert-number zs d, l, flipped-number at h))
+
+-- ---- a group of w bytes by the greatest number of so many
+abbrev pub greatest : ℕ → ℕ
+greatest w = 4294967295 / 2 ^ (32 - 8 * w)
+
+pub greatest-is : (w : ℕ) → 1 ≤ w → w ≤ 4 → (2 * (greatest w / 2 + 1) ≡ 256 ^ w) × ((greatest w + 1 ≡ 256 ^ w) × (256 ^ w ≤ 4294967296))
+greatest-is zero l m = absurd (omega arith)
+greatest-is (suc zero) l m = (refl, (refl, lit≤ tt))
+greatest-is (suc (suc zero)) l m = (refl, (refl, lit≤ tt))
+greatest-is (suc (suc (suc zero))) l m = (refl, (refl, lit≤ tt))
+greatest-is (suc (suc (suc (suc zero)))) l m = (refl, (refl, lit≤ tt))
+greatest-is (suc (suc (suc (suc (suc w))))) l m = absurd (omega arith)
+
+pub of-part : (bs : List ℕ) (w : ℕ) → Below 256 bs → (v : Bool) (at : ℕ) → 1 ≤ w → w ≤ 4 → at + w ≤ length bs
+    → shown v at (greatest w / 2 + 1) (greatest w) (number 256 (take w (drop at bs))) ≡ number 256 (take w (drop at (digits_in (form_of v) bs)))
+of-part bs zero b v at l m h = absurd (omega arith)
+of-part bs (suc zero) b v at l m h = of-bytes bs 0 b v at h
+of-part bs (suc (suc zero)) b v at l m h = of-bytes bs 1 b v at h
+of-part bs (suc (suc (suc zero))) b v at l m h = of-bytes bs 2 b v at h
+of-part bs (suc (suc (suc (suc zero)))) b v at l m h = of-bytes bs 3 b v at h
+of-part bs (suc (suc (suc (suc (suc w))))) b v at l m h = absurd (omega arith)
+
+-- so many bytes write less than their greatest number and one
+pub part_lt : (bs : List ℕ) (w at : ℕ) → Below 256 bs → at + w ≤ length bs → number 256 (take w (drop at bs)) < 256 ^ w
+part_lt bs w at b h =
+    let e : length (take w (drop at bs)) ≡ w = length-take-le w (drop at bs) (simp length-drop (omega arith)) in
+    rw e at (number_lt 256 (take w (drop at bs)) (below-take 256 w (drop at bs) (below-drop 256 at bs b)))

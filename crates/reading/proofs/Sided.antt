@@ -12,10 +12,12 @@ use lib.ListN.{length, get_or, take, drop, set, replicate}
 use lib.Seq.{get_or-set_same, get_or-set_other}
 use borrow.Author.Count.{below_more}
 use borrow.Author.Tests.{lt-ltb, le-ltb, ltb-true}
+use Rattle.std.specs.Prelude.{Ok, Err}
+use Rattle.refusal.specs.declared.Refusal.TheVariants as refusal
 use Rattle.groups.specs.Numbers.{number}
 use Rattle.groups.specs.Layout.{width, form_of, Plain, Inverted}
 use Rattle.groups.specs.Sides.{rest, lead_places, wholes}
-use Rattle.groups.specs.Read.{range_at, stored_at, no_groups, groups_in}
+use Rattle.groups.specs.Read.{range_at, stored_at, groups_in}
 use Rattle.groups.proofs.Caps.{same_test, below_or_not}
 use Rattle.groups.proofs.Places.{pow-pos10, nine}
 use Rattle.groups.proofs.SidesLaws.{lead-range, lead-stored, whole-range, whole-stored, tail-range, tail-stored, past-range, past-stored}
@@ -56,7 +58,7 @@ module _ (i f : ℕ) (ds : List ℕ) where
   tail-in v = ((tail_of v).0 ∙ scaled-lt _ (rest f) (omega arith), (tail_of v).1)
 
   -- ---- a group that is out of range
-  refused : (v : Bool) (k : ℕ) → k < 9 → range_at (form_of v) i f ds k ≡ false → groups_in (form_of v) i f ds ≡ no_groups 22
+  refused : (v : Bool) (k : ℕ) → k < 9 → range_at (form_of v) i f ds k ≡ false → groups_in (form_of v) i f ds ≡ Err refusal.Group
   unfolding groups_in
   refused v k h e = simp (all-false (range_at (form_of v) i f ds) 9 k h e)
 
@@ -64,7 +66,7 @@ module _ (i f : ℕ) (ds : List ℕ) where
   unfolding width number
   lead-none e = rw e
 
-  pub lead-over : (v : Bool) → 10 ^ rest i ≤ lead_in → groups_in (form_of v) i f ds ≡ no_groups 22
+  pub lead-over : (v : Bool) → 10 ^ rest i ≤ lead_in → groups_in (form_of v) i f ds ≡ Err refusal.Group
   lead-over v h =
       ⊎_elim (λ (e : rest i ≡ 0). absurd (over e (rw (lead-none e, e) at h)))
       (λ (l : 0 < rest i). refused v 0 (omega arith) ((lead-in v 0 (omega arith)).0 ∙ le-ltb lead_in (10 ^ rest i) h)) (eq-zero-or-pos (rest i))
@@ -73,10 +75,10 @@ module _ (i f : ℕ) (ds : List ℕ) where
       over e q = omega arith
 
   module _ (small : i + f ≤ 65) where
-    pub four-over : (v : Bool) (n : ℕ) → n < wholes i f → 1000000000 ≤ four_in n → groups_in (form_of v) i f ds ≡ no_groups 22
+    pub four-over : (v : Bool) (n : ℕ) → n < wholes i f → 1000000000 ≤ four_in n → groups_in (form_of v) i f ds ≡ Err refusal.Group
     four-over v n l h = refused v (lead_places i + n) (omega arith) ((four-in v n l).0 ∙ le-ltb (four_in n) 1000000000 h)
 
-    pub tail-over : (v : Bool) → 1000000000 ≤ tail_in → groups_in (form_of v) i f ds ≡ no_groups 22
+    pub tail-over : (v : Bool) → 1000000000 ≤ tail_in → groups_in (form_of v) i f ds ≡ Err refusal.Group
     tail-over v h = refused v (lead_places i + wholes i f) (omega arith) ((tail-in v).0 ∙ le-ltb tail_in 1000000000 h)
 
   -- ---- the groups before the place k are in range and stored, and those from it on are 0
@@ -100,7 +102,7 @@ module _ (i f : ℕ) (ds : List ℕ) where
     (below_more _ k h.1.0 r, λ j m. get_or-set_other gs k j x 0 (λ q. omega arith) ∙ h.1.1 j (omega arith)),
   )
 
-  pub filled-all : (v : Bool) (gs : List ℕ) → length gs ≡ 9 → Filled v (lead_places i + wholes i f + 1) gs → groups_in (form_of v) i f ds ≡ record { refusal = 0; groups = gs }
+  pub filled-all : (v : Bool) (gs : List ℕ) → length gs ≡ 9 → Filled v (lead_places i + wholes i f + 1) gs → groups_in (form_of v) i f ds ≡ Ok gs
   unfolding groups_in
   filled-all v gs l h =
       let z = lead_places i + wholes i f + 1 in

@@ -1,12 +1,6 @@
 -- What private functions do on the way; no public promise rests on it.
 -- Assumes nothing.
-use Rattle.std.specs.Prelude.{ℕ, ◌+◌, ◌-◌, ◌≡◌, Bool, cond, List, ltb, eqb, take, drop}
-use Rattle.groups.specs.Numbers.{number, Below}
-
--- the number x that the w bytes from `at` on write, highest first
-pub record Bytes (bs : List ℕ) (at w x : ℕ) : Type 0 where
-  pub is : x ≡ number 256 (take w (drop at bs))
-  pub below : Below 256 (take w (drop at bs))
+use Rattle.std.specs.Prelude.{ℕ, ◌+◌, ◌-◌, Bool, cond, ltb, eqb}
 
 -- a number with the bit that weighs `half` flipped
 unfoldable pub flip_by : ℕ → ℕ → ℕ

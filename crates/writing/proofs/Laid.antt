@@ -1,13 +1,12 @@
--- The laws of writing over a list: one byte; what is written before or after what is written already; the groups of a run, one more.
+-- The laws of writing over a list: what is written after what is written already; the groups of a run, one more.
 -- Assumes nothing.
 use mathlib.Core.Path.{◌≡◌, sym, ap, ◌∙◌}
-use mathlib.Core.List.{List, [], ◌∷◌, ◌++◌, append_assoc}
-use Prim.Native.Nat.{ℕ, suc, ◌+◌, ◌-◌, ◌*◌, ◌/◌, ◌%◌, ◌≤◌, ◌<◌}
+use mathlib.Core.List.{List, [], ◌++◌, append_assoc}
+use Prim.Native.Nat.{ℕ, suc, ◌+◌, ◌-◌, ◌*◌, ◌≤◌}
 use native.Mathlib.Nat.{add-zero, zero-add}
-use native.Mathlib.Numerals.{add-one}
 use native.Mathlib.Omega.{arith}
-use lib.ListN.{length, take, drop, set, length-append, take-append-drop}
-use lib.Seq.{set_split, take-append-le, take-take, drop_at, take_at, drop-drop, length-take-le}
+use lib.ListN.{length, take, drop, length-append, take-append-drop}
+use lib.Seq.{drop_at, take_at, drop-drop, length-take-le}
 use Rattle.groups.specs.Numbers.{digits}
 use Rattle.groups.specs.Course.{run}
 use Rattle.writing.specs.Course.{laid_at}
@@ -16,19 +15,6 @@ use Rattle.groups.proofs.SidesLaws.{length_run}
 pub laid_none : (out : List ℕ) (at : ℕ) → laid_at out at 0 [] ≡ out
 unfolding laid_at
 laid_none out at = rw (add-zero at) (take-append-drop at out)
-
-pub laid-byte : (out : List ℕ) (at v : ℕ) → at + 1 ≤ length out → set out at v ≡ laid_at out at 1 (v ∷ [])
-unfolding laid_at
-laid-byte out at v h = set_split out at v (omega arith) ∙ rw add-one
-
-pub laid-before : (out A B : List ℕ) (at n m : ℕ) → at + n ≤ length out → laid_at (laid_at out (at + n) m B) at n A ≡ laid_at out at (n + m) (A ++ B)
-unfolding laid_at
-laid-before out A B at n m h =
-    let T = take (at + n) out in
-    let R = B ++ drop (at + n + m) out in
-    let l : length T ≡ at + n = length-take-le (at + n) out h in
-    let p : at + n + m ≡ at + (n + m) = omega arith in
-    rw (take-append-le at T R (omega arith), take-take at (at + n) out (omega arith), drop_at T R (at + n) l, p, append_assoc)
 
 pub laid-after : (out A B : List ℕ) (at n m : ℕ) → at + n ≤ length out → length A ≡ n → laid_at (laid_at out at n A) (at + n) m B ≡ laid_at out at (n + m) (A ++ B)
 unfolding laid_at
@@ -51,12 +37,6 @@ three out A B C a b c h k l =
     let p = rw (zero-add a) at (laid-after out A B 0 a b (omega arith) k) in
     let q = rw (zero-add (a + b)) at (laid-after out (A ++ B) C 0 (a + b) c (omega arith) (length-append A B ∙ omega arith)) in
     ap (λ (o : List ℕ). laid_at o (a + b) c C) p ∙ q ∙ laid-front out ((A ++ B) ++ C) (a + b + c)
-
--- one digit, and then those before it
-pub digit-before : (b n : ℕ) (out : List ℕ) (at x : ℕ) → at + n < length out
-    → laid_at (laid_at out (at + n) 1 (digits b 1 x)) at n (digits b n (x / b)) ≡ laid_at out at (n + 1) (digits b (n + 1) x)
-unfolding digits
-digit-before b n out at x h = laid-before out (digits b n (x / b)) (x % b ∷ []) at n 1 (omega arith) ∙ ap (laid_at out at (n + 1)) (rw add-one)
 
 -- ---- a run of groups
 pub run-start : (out : List ℕ) (at b w : ℕ) (g : ℕ → ℕ) (k : ℕ) → out ≡ laid_at out at (w * (k - k)) (run b w g k (k - k))

@@ -9,10 +9,6 @@ use Rattle.groups.proofs.Accept.{in-range}
 use Rattle.groups.proofs.Sizes.{packed-sides}
 use Rattle.groups.proofs.layout.size.Goals as goal
 
-pub returns-then-not-accepted : goal.returns-then-not-accepted
-unfolding size_of
-returns-then-not-accepted c = sym (simp (sym c.if-not-accepted.ensures))
-
 pub overflow_sub-precision : goal.overflow_sub-precision
 overflow_sub-precision c = (in-range _ _ (sym c.if-not-accepted.ensures)).1.1
 
@@ -21,4 +17,4 @@ unfolding size_of
 returns c =
     let e : in_range c.args.precision c.args.scale ≡ true = sym c.if-not-accepted.ensures in
     let h = in-range _ _ e in
-    ap (λ (n : ℕ). answer (n ∷ [])) (ap (λ (s : Sides). s.size) c.sides_of-s.ensures ∙ sym (packed-sides _ _ (omega arith))) ∙ sym (simp e)
+    ap (λ (n : ℕ). answer (n ∷ [])) (ap (λ (s : Sides). s.size) c.sides_of.ensures ∙ sym (packed-sides _ _ (omega arith))) ∙ sym (simp e)
