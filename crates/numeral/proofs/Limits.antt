@@ -1,6 +1,6 @@
 -- What a numeral that was read holds: digits below 10, as many as the limits allow. Its text consists of digits and a point, by the definition.
 -- Assumes nothing.
-use mathlib.Core.Path.{◌≡◌, refl}
+use mathlib.Core.Path.{◌≡◌, refl, subst}
 use mathlib.Core.Bool.{Bool, true, false, cond}
 use mathlib.Core.List.{List, [], ◌∷◌, map, map-append}
 use Prim.Native.Nat.{ℕ, zero, suc, ◌+◌, ◌≤◌, ◌<◌}
@@ -9,10 +9,12 @@ use lib.Dec.{leb, eqb, lit<}
 use lib.ListN.{length, get_or, take, drop}
 use lib.Seq.{take-length}
 use borrow.Author.Tests.{leb-true, eqb-true}
+use Rattle.std.specs.Prelude.{Ok, Err}
+use Rattle.refusal.specs.declared.Refusal.TheVariants as refusal
 use Rattle.groups.specs.Numbers.{Below}
 use Rattle.groups.proofs.Accept.{both_true}
 use Rattle.groups.proofs.Radix.{below-append}
-use Rattle.numeral.specs.Read.{Numeral, is_digit, run, pointed, whole_part, fraction_part, is_text, few_digits, digit_of, digits_in, numeral_of, no_numeral, minus, strip, unsigned, read_unsigned, read_text}
+use Rattle.numeral.specs.Read.{Numeral, is_digit, run, pointed, whole_part, fraction_part, is_text, few_digits, digit_of, digits_in, numeral_of, minus, strip, unsigned, read_unsigned, read_text}
 
 -- ---- digits
 digit_lt : (c : ℕ) → is_digit c ≡ true → digit_of c < 10
@@ -53,17 +55,16 @@ few : (i f : ℕ) → few_digits i f ≡ true → (f ≤ 30) × (i + f ≤ 65)
 unfolding few_digits
 few i f h = let b = both_true (leb (i + f) 65) (leb f 30) h in (leb-true f 30 b.1, leb-true (i + f) 65 b.0)
 
-unsigned-within : (neg : Bool) (xs : List ℕ) → (read_unsigned neg xs).refusal ≡ 0 → Within (read_unsigned neg xs)
+unsigned-within : (neg : Bool) (xs : List ℕ) (t : Numeral) → read_unsigned neg xs ≡ Ok t → Within t
 unfolding read_unsigned
-unsigned-within neg xs e = go (is_text xs) (few_digits (length (whole_part xs)) (length (fraction_part xs))) (text-below xs) (few (length (whole_part xs)) (length (fraction_part xs))) e
+unsigned-within neg xs t e = go (is_text xs) (few_digits (length (whole_part xs)) (length (fraction_part xs))) (text-below xs) (few (length (whole_part xs)) (length (fraction_part xs))) e
   where
-    go : (t u : Bool) → (t ≡ true → Below 10 (digits_in xs)) → (u ≡ true → (length (fraction_part xs) ≤ 30) × (length (whole_part xs) + length (fraction_part xs) ≤ 65))
-        → (cond {A = Numeral} t (cond u (numeral_of neg xs) (no_numeral 24)) (no_numeral 23)).refusal ≡ 0
-        → Within (cond {A = Numeral} t (cond u (numeral_of neg xs) (no_numeral 24)) (no_numeral 23))
-    go true true h k e = ((k refl).0, ((k refl).1, h refl))
-    go true false h k e = absurd (omega arith)
-    go false u h k e = absurd (omega arith)
+    go : (p q : Bool) → (p ≡ true → Below 10 (digits_in xs)) → (q ≡ true → (length (fraction_part xs) ≤ 30) × (length (whole_part xs) + length (fraction_part xs) ≤ 65))
+        → cond p (cond q (Ok (numeral_of neg xs)) (Err refusal.Digits)) (Err refusal.Text) ≡ Ok t → Within t
+    go true true h k e = let z : numeral_of neg xs ≡ t = cc in subst Within z ((k refl).0, ((k refl).1, h refl))
+    go true false h k e = absurd (cc)
+    go false q h k e = absurd (cc)
 
-pub read-within : (bs : List ℕ) → (read_text bs).refusal ≡ 0 → Within (read_text bs)
+pub read-within : (bs : List ℕ) (t : Numeral) → read_text bs ≡ Ok t → Within t
 unfolding read_text
-read-within bs e = unsigned-within (minus (strip bs)) (unsigned (strip bs)) e
+read-within bs t e = unsigned-within (minus (strip bs)) (unsigned (strip bs)) t e

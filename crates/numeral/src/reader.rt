@@ -1,5 +1,5 @@
 // From text to groups of nine digits.
-ghost use Rattle.std.specs.Prelude.{◌≡◌, ◌+◌, ◌*◌, ◌^◌, ◌<◌, ◌≤◌, ◌++◌, length, map, MatchOption};
+ghost use Rattle.std.specs.Prelude.{◌≡◌, ◌+◌, ◌-◌, ◌*◌, ◌^◌, ◌<◌, ◌≤◌, ◌++◌, true, false, length, take, drop, map, MatchOption};
 ghost use Rattle.groups.specs.Numbers.{number, tab};
 ghost use Rattle.groups.specs.Layout.{Digits};
 ghost use Rattle.groups.specs.Read.{stored_at};
@@ -10,6 +10,7 @@ use groups::Parts;
 use refusal::Refusal;
 
 // The text once one zero is removed while it begins "00".
+#[tactic(auto, unfolding(crate::specs::Read::strip))]
 fn skip_zeros(text: &[u8]) -> &[u8]
     ensures { result.now ≡ strip text.now }
 {
@@ -21,6 +22,7 @@ fn skip_zeros(text: &[u8]) -> &[u8]
 }
 
 // Whether there is a minus, and the text after an optional sign.
+#[tactic(auto, unfolding(crate::specs::Read::minus, crate::specs::Read::unsigned))]
 fn split_sign(text: &[u8]) -> (bool, &[u8])
     ensures { (result.0 ≡ minus text.now) × (result.1.now ≡ unsigned text.now) }
 {
@@ -39,6 +41,7 @@ fn digit_run(text: &[u8]) -> usize
 }
 
 // What follows the integral digits: nothing, or a point and digits to the end. The digits, or nothing where something else stands there.
+#[tactic(auto, unfolding(crate::specs::Read::pointed))]
 fn fraction_of(text: &[u8]) -> Option<&[u8]>
     ensures { MatchOption result (pointed text.now ≡ false) (λ f. (pointed text.now ≡ true) × (f.now ≡ drop 1 text.now)) }
 {
@@ -62,14 +65,15 @@ fn number_of(digits: &[u8]) -> u32
     x
 }
 
-// Reads as many digits as fill these groups.
-fn take_nines(groups: &mut [u32], digits: &[u8])
-    requires as_many { length digits.now ≡ 9 * length groups.old }
+// Reads whole groups of nine digits, from one place to another.
+fn take_nines(groups: &mut [u32; 9], from: usize, to: usize, digits: &[u8])
+    requires from_le_to { (from ≤ to) × ((to ≤ 9) × (9 * (to - from) ≤ length digits.now)) }
     requires digits { AllDigits digits.now }
-    ensures { groups.new ≡ tab (length groups.old) (λ k. number 10 (map digit_of (take 9 (drop (9 * k) digits.now)))) }
+    ensures { Nines digits.now from to groups.old groups.new }
 {
-    for k in 0..groups.len() {
-        groups[k] = number_of(&digits[9 * k..9 * k + 9]);
+    for k in from..to {
+        let at = 9 * (k - from);
+        groups[k] = number_of(&digits[at..at + 9]);
     }
 }
 
@@ -77,15 +81,16 @@ fn take_nines(groups: &mut [u32], digits: &[u8])
 fn groups_in(whole: &[u8], fraction: &[u8]) -> [u32; 9]
     requires few { length whole.now + length fraction.now ≤ 65 }
     requires digits { AllDigits whole.now × AllDigits fraction.now }
-    ensures { result ≡ tab 9 (stored_at Digits (length whole.now) (length fraction.now) (map digit_of (whole.now ++ fraction.now))) }
+    ensures { result
+        ≡ tab 9 (stored_at Digits (length whole.now) (length fraction.now) (map digit_of (whole.now ++ fraction.now))) }
 {
     let s = groups::sides_of(whole.len(), fraction.len());
     let mut groups = [0; 9];
     groups[0] = number_of(&whole[..s.lead]);
-    take_nines(&mut groups[s.first..s.point], &whole[s.lead..]);
-    let nines = fraction.len() - s.tail;
-    take_nines(&mut groups[s.point..s.last], &fraction[..nines]);
-    groups[s.last] = number_of(&fraction[nines..]) * groups::power(9 - s.tail);
+    take_nines(&mut groups, s.first, s.point, &whole[s.lead..]);
+    take_nines(&mut groups, s.point, s.last, fraction);
+    let tail = number_of(&fraction[fraction.len() - s.tail..]);
+    groups[s.last] = tail * groups::power(9 - s.tail);
     groups
 }
 
@@ -111,6 +116,7 @@ fn read_unsigned(text: &[u8], negative: bool) -> Result<Parts, Refusal>
 }
 
 // The numeral that the text writes.
+#[tactic(auto, unfolding(crate::specs::Read::read_text))]
 pub fn read(text: &[u8]) -> Result<Parts, Refusal>
     ensures { result ≡ parsed (read_text text.now) }
 {

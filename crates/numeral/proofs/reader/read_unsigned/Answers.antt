@@ -1,44 +1,49 @@
--- The refusals in their order, by what follows the integral digits and by how many digits there are; past them the groups are those of the digits.
--- Assumes what the contract requires, and nothing else.
-use Rattle.std.proofs.Common.{arith, ◌≡◌, sym, ap, ◌∙◌, ◌+◌, ◌-◌, length, drop}
-use Rattle.numeral.specs.Read.{parsed}
-use Rattle.numeral.specs.Course.{fraction_at}
-use Rattle.numeral.specs.declared.reader.Fraction.TheVariants.{Places}
-use Rattle.numeral.proofs.Parts.{fraction-size, read-other, read_none, read-many, read_some}
+-- The answer, by the numbers of digits.
+-- Assumes nothing.
+use Rattle.std.proofs.Common.{◌≡◌, ℕ, take, drop, rules, arith, sym, ap, ◌∙◌, refl}
+use Rattle.refusal.specs.declared.Refusal.TheVariants as refusal
+use Rattle.numeral.specs.Read.{run}
+use Rattle.numeral.proofs.Scans.{run-digits, pointed-digits}
+use Rattle.numeral.proofs.Parts.{read-other, read_none, read-many, read_some, some-of, none-of}
 use Rattle.numeral.proofs.reader.read_unsigned.Goals as goal
 
-pub returns-in_default : goal.returns-in_default
-returns-in_default c =
-    c.no_numeral.ensures ∙ sym (ap parsed (read-other _ _ _ c.digit_run-intg.ensures.0 _ (sym c.in_default.ensures)))
+pub returns-in_err-fraction : goal.returns-in_err-fraction
+returns-in_err-fraction c =
+    let t = c.args.text.now in
+    let b : c.split_at.result.1.now ≡ drop (run t) t = c.split_at.ensures.back ∙ ap (λ (n : ℕ). drop n t) c.digit_run.ensures.0 in
+    let n = none-of c.fraction_of.result refusal.Text _ (sym c.ok_or.ensures.value ∙ c.in_err-fraction.was) in
+    let f = rw n.0 at c.fraction_of.ensures in
+    let e = read-other c.args.negative t (rw b at f) in
+    rw e (search rules)
 
-pub overflow_add-intg : goal.overflow_add-intg
-overflow_add-intg c =
-    let e : fraction_at (drop (c.args.from + c.digit_run-intg.result) c.args.text.now) ≡ Places c.in-Places.frac = sym c.in-Places.ensures in
-    let h : length c.args.text.now - (c.args.from + c.digit_run-intg.result + 1) ≡ c.in-Places.frac = fraction-size _ _ _ c.digit_run-intg.ensures.0 _ e in
-    record { fits = omega arith }
+pub returns-then-digits-eq0 : goal.returns-then-digits-eq0
+returns-then-digits-eq0 c =
+    let t = c.args.text.now in
+    let b : c.split_at.result.1.now ≡ drop (run t) t = c.split_at.ensures.back ∙ ap (λ (n : ℕ). drop n t) c.digit_run.ensures.0 in
+    let f = rw (some-of c.fraction_of.result refusal.Text _ (sym c.ok_or.ensures.value ∙ c.in_ok-fraction.was)) at c.fraction_of.ensures in
+    let w = c.split_at.ensures.front ∙ ap (λ (n : ℕ). take n t) c.digit_run.ensures.0 in
+    rw (read_none c.args.negative t c.split_at.result.0.now c.in_ok-fraction.fraction.now w (rw b at f.1) (rw b at f.0) c.if-digits-eq0.true) refl
 
-pub returns-then-intg-frac-eq0 : goal.returns-then-intg-frac-eq0
-returns-then-intg-frac-eq0 c =
-    let e : fraction_at (drop (c.args.from + c.digit_run-intg.result) c.args.text.now) ≡ Places c.in-Places.frac = sym c.in-Places.ensures in
-    c.no_numeral-then-intg-frac-eq0.ensures ∙ sym (ap parsed (read_none _ _ _ c.digit_run-intg.ensures.0 _ e _ c.if-intg-frac-eq0.true))
+pub returns-then-digits-gt65 : goal.returns-then-digits-gt65
+returns-then-digits-gt65 c =
+    let t = c.args.text.now in
+    let b : c.split_at.result.1.now ≡ drop (run t) t = c.split_at.ensures.back ∙ ap (λ (n : ℕ). drop n t) c.digit_run.ensures.0 in
+    let f = rw (some-of c.fraction_of.result refusal.Text _ (sym c.ok_or.ensures.value ∙ c.in_ok-fraction.was)) at c.fraction_of.ensures in
+    let w = c.split_at.ensures.front ∙ ap (λ (n : ℕ). take n t) c.digit_run.ensures.0 in
+    rw (read-many c.args.negative t c.split_at.result.0.now c.in_ok-fraction.fraction.now w (rw b at f.1) (rw b at f.0) c.if-digits-eq0.false c.then-digits-gt65.either) refl
 
-pub overflow_add-intg-2 : goal.overflow_add-intg-2
-overflow_add-intg-2 c =
-    let e : fraction_at (drop (c.args.from + c.digit_run-intg.result) c.args.text.now) ≡ Places c.in-Places.frac = sym c.in-Places.ensures in
-    let h : length c.args.text.now - (c.args.from + c.digit_run-intg.result + 1) ≡ c.in-Places.frac = fraction-size _ _ _ c.digit_run-intg.ensures.0 _ e in
-    record { fits = omega arith }
-
-pub returns-then-intg-frac-gt65 : goal.returns-then-intg-frac-gt65
-returns-then-intg-frac-gt65 c =
-    let e : fraction_at (drop (c.args.from + c.digit_run-intg.result) c.args.text.now) ≡ Places c.in-Places.frac = sym c.in-Places.ensures in
-    c.no_numeral-then-intg-frac-gt65.ensures ∙ sym (ap parsed (read-many _ _ _ c.digit_run-intg.ensures.0 _ e _ (omega arith) (λ x y. omega arith)))
-
-pub returns-then-frac-gt30 : goal.returns-then-frac-gt30
-returns-then-frac-gt30 c =
-    let e : fraction_at (drop (c.args.from + c.digit_run-intg.result) c.args.text.now) ≡ Places c.in-Places.frac = sym c.in-Places.ensures in
-    c.no_numeral-then-frac-gt30.ensures ∙ sym (ap parsed (read-many _ _ _ c.digit_run-intg.ensures.0 _ e _ (omega arith) (λ x y. omega arith)))
+pub groups_in-requires-clause-digits : goal.groups_in-requires-clause-digits
+groups_in-requires-clause-digits c =
+    let t = c.args.text.now in
+    let b : c.split_at.result.1.now ≡ drop (run t) t = c.split_at.ensures.back ∙ ap (λ (n : ℕ). drop n t) c.digit_run.ensures.0 in
+    let f = rw (some-of c.fraction_of.result refusal.Text _ (sym c.ok_or.ensures.value ∙ c.in_ok-fraction.was)) at c.fraction_of.ensures in
+    let w = c.split_at.ensures.front ∙ ap (λ (n : ℕ). take n t) c.digit_run.ensures.0 in
+    (rw w (run-digits t), rw f.1 (pointed-digits c.split_at.result.1.now f.0))
 
 pub returns : goal.returns
 returns c =
-    let e : fraction_at (drop (c.args.from + c.digit_run-intg.result) c.args.text.now) ≡ Places c.in-Places.frac = sym c.in-Places.ensures in
-    rw c.groups_in.ensures (sym (ap parsed (read_some _ _ _ c.digit_run-intg.ensures.0 _ e _ (omega arith) (omega arith) (omega arith))))
+    let t = c.args.text.now in
+    let b : c.split_at.result.1.now ≡ drop (run t) t = c.split_at.ensures.back ∙ ap (λ (n : ℕ). drop n t) c.digit_run.ensures.0 in
+    let f = rw (some-of c.fraction_of.result refusal.Text _ (sym c.ok_or.ensures.value ∙ c.in_ok-fraction.was)) at c.fraction_of.ensures in
+    let w = c.split_at.ensures.front ∙ ap (λ (n : ℕ). take n t) c.digit_run.ensures.0 in
+    rw c.groups_in.ensures (sym (read_some c.args.negative t c.split_at.result.0.now c.in_ok-fraction.fraction.now w (rw b at f.1) (rw b at f.0) c.if-digits-eq0.false (omega arith) (omega arith)))
