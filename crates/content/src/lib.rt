@@ -116,34 +116,14 @@ fn content(w: Window<'_>, t: JsonbType) -> Result<Value, Refusal>
 {
     let Window { doc, at, end } = w;
     match t {
-        JsonbType::SmallObject => container(
-            w,
-            Kind {
-                object: true,
-                large: false,
-            },
-        ),
-        JsonbType::LargeObject => container(
-            w,
-            Kind {
-                object: true,
-                large: true,
-            },
-        ),
-        JsonbType::SmallArray => container(
-            w,
-            Kind {
-                object: false,
-                large: false,
-            },
-        ),
-        JsonbType::LargeArray => container(
-            w,
-            Kind {
-                object: false,
-                large: true,
-            },
-        ),
+        JsonbType::SmallObject
+        | JsonbType::LargeObject
+        | JsonbType::SmallArray
+        | JsonbType::LargeArray => {
+            let object = matches!(t, JsonbType::SmallObject | JsonbType::LargeObject);
+            let large = matches!(t, JsonbType::LargeObject | JsonbType::LargeArray);
+            container(w, Kind { object, large })
+        }
         JsonbType::Literal => literal(w),
         JsonbType::Int16 => number(w, t, 2, Number::Int(signed::i16_at(doc, at, end))),
         JsonbType::Uint16 => number(w, t, 2, Number::Uint(raw::u16_at(doc, at, end))),

@@ -1,7 +1,7 @@
 -- Whether the document has a place i and an end e, and the header of a container there: its count and its size. The end is that of the enclosing container
 -- (json_binary.h of MySQL; document 01, 'Container rules' and the order of its refusals).
 -- Assumes nothing.
-use Rattle.std.specs.Prelude.{ℕ, ◌+◌, ◌*◌, ◌-◌, cond, List, ltb, eqb, length, Result, Ok, Err, ⊤}
+use Rattle.std.specs.Prelude.{ℕ, ◌+◌, ◌*◌, ◌-◌, cond, List, ltb, length, Result, Ok, Err, ⊤}
 use Rattle.refusal.specs.declared.Refusal.{Refusal}
 use Rattle.refusal.specs.declared.Refusal.TheVariants as refusal
 use Rattle.layout.specs.Layout.{offset_size, header_size, offset_at}

@@ -2,108 +2,82 @@
 -- Assumes nothing.
 use mathlib.Core.Path.{◌≡◌, refl, sym, ap, ◌∙◌}
 use mathlib.Core.Bool.{Bool, not}
-use mathlib.Core.List.{List}
+use mathlib.Core.List.{List, []}
 use Prim.Native.Nat.{ℕ, ◌≤◌}
 use lib.ListN.{length, take}
-use Rattle.refusal.proofs.Answers.{one_answer}
+use Rattle.std.specs.Prelude.{Result, Ok, Err, Option, Some, None}
+use Rattle.refusal.specs.declared.Refusal.{Refusal}
+use Rattle.refusal.specs.Refusals.{number_of}
+use Rattle.refusal.specs.Told.{refusal}
+use Rattle.refusal.proofs.Answers.{told-answer}
 use Rattle.value.specs.declared.Span.{Span}
 use Rattle.value.specs.declared.Value.{Value}
-use Rattle.gate.specs.Said.{Said, says, nothing, refuses, found_said, key_said}
-use Rattle.jsonb.specs.Views.{count_said}
-use Rattle.steps.specs.Steps.{after, member_said, element_item, key_item, member_item}
-use Rattle.gate.specs.declared.Found.{Found}
-use Rattle.gate.specs.declared.Found.TheVariants as found
-use Rattle.gate.specs.declared.Key.{Key}
-use Rattle.gate.specs.declared.Key.TheVariants as key
-use Rattle.jsonb.specs.declared.Count.{Count}
-use Rattle.jsonb.specs.declared.Count.TheVariants as count
-use Rattle.steps.specs.declared.Member.{Member}
-use Rattle.steps.specs.declared.Member.TheVariants as member
+use Rattle.gate.specs.Said.{Said, read_said, said}
+use Rattle.steps.specs.Steps.{after, element_item, key_item, member_item}
 use Rattle.steps.specs.declared.Elements.{Elements}
-use Rattle.steps.specs.declared.Element.{Element}
 use Rattle.steps.specs.declared.Keys.{Keys}
-use Rattle.steps.specs.declared.KeyStep.{KeyStep}
 use Rattle.steps.specs.declared.Members.{Members}
-use Rattle.steps.specs.declared.MemberStep.{MemberStep}
+use Rattle.steps.specs.declared.Member.{Member}
+use Rattle.steps.specs.declared.Step.{Step}
 use Rattle.entry.specs.Entries.{end_of}
 use Rattle.jsonb_laws.specs.Allowed.{ElementAllowed, KeyAllowed, MemberAllowed}
 use Rattle.jsonb_laws.proofs.SameFront.{element-item-same, key-item-same, member-item-same, open-same}
 
--- ---- elem_at
-found-by : Said Value → Found
-found-by (says x) = found.Value x
-found-by nothing = found.Nothing
-found-by (refuses n) = found.Refused n
+-- ---- a refusal by its number
+refused-same : (r s : Refusal) → number_of r ≡ number_of s → r ≡ s
+refused-same r s e =
+    let q : ◌≡◌ {A = Result (Unit {0}) Refusal} (Err r) (Err s) =
+    told-answer (λ (u : Unit {0}). []) (λ (l : List ℕ). tt) (λ u. refl) (refusal (number_of s)) (Err r) (Err s) (ap refusal e) refl in
+    cc
 
-found-again : (r : Found) → found-by (found_said r) ≡ r
-unfolding found-by
-found-again (found.Value x) = refl
-found-again found.Nothing = refl
-found-again (found.Refused n) = refl
+-- ---- an answer that is never nothing, and one that may be
+read-same : {A : Type 0} (r s : Result A Refusal) → read_said r ≡ read_said s → r ≡ s
+read-same (Ok x) (Ok y) e = let p : x ≡ y = cc in ap Ok p
+read-same (Ok x) (Err s) e = cc
+read-same (Err r) (Ok y) e = cc
+read-same (Err r) (Err s) e = let p : number_of r ≡ number_of s = cc in ap Err (refused-same r s p)
 
-pub found-answer : (d : Said Value) (r s : Found) → found_said r ≡ d → found_said s ≡ d → r ≡ s
-found-answer d r s p q = one_answer found_said found-by found-again d r s p q
+said_same : {A : Type 0} (r s : Result (Option A) Refusal) → said r ≡ said s → r ≡ s
+said_same (Ok (Some x)) (Ok (Some y)) e = let p : x ≡ y = cc in ap (λ z. Ok (Some z)) p
+said_same (Ok (Some x)) (Ok None) e = cc
+said_same (Ok (Some x)) (Err s) e = cc
+said_same (Ok None) (Ok (Some y)) e = cc
+said_same (Ok None) (Ok None) e = refl
+said_same (Ok None) (Err s) e = cc
+said_same (Err r) (Ok (Some y)) e = cc
+said_same (Err r) (Ok None) e = cc
+said_same (Err r) (Err s) e = let p : number_of r ≡ number_of s = cc in ap Err (refused-same r s p)
 
--- ---- key_at
-key-by : Said Span → Key
-key-by (says x) = key.Key x
-key-by nothing = key.Nothing
-key-by (refuses n) = key.Refused n
+-- deserialize, element_count
+pub count-answer : {A : Type 0} (d : Said A) (r s : Result A Refusal) → read_said r ≡ d → read_said s ≡ d → r ≡ s
+count-answer d r s p q = read-same r s (p ∙ sym q)
 
-key-again : (r : Key) → key-by (key_said r) ≡ r
-unfolding key-by
-key-again (key.Key x) = refl
-key-again key.Nothing = refl
-key-again (key.Refused n) = refl
+-- elem_at, key_at, and the items of the steps
+pub found-answer : {A : Type 0} (d : Said A) (r s : Result (Option A) Refusal) → said r ≡ d → said s ≡ d → r ≡ s
+found-answer d r s p q = said_same r s (p ∙ sym q)
 
-pub key-answer : (d : Said Span) (r s : Key) → key_said r ≡ d → key_said s ≡ d → r ≡ s
-key-answer d r s p q = one_answer key_said key-by key-again d r s p q
+pub key-answer : (d : Said Span) (r s : Result (Option Span) Refusal) → said r ≡ d → said s ≡ d → r ≡ s
+key-answer d r s p q = found-answer d r s p q
 
--- ---- element_count, which never says nothing: what stands for that is arbitrary
-count_by : Said ℕ → Count
-count_by (says n) = count.Count n
-count_by nothing = count.Count 0
-count_by (refuses n) = count.Refused n
-
-count-again : (r : Count) → count_by (count_said r) ≡ r
-unfolding count_by
-count-again (count.Count n) = refl
-count-again (count.Refused n) = refl
-
-pub count-answer : (d : Said ℕ) (r s : Count) → count_said r ≡ d → count_said s ≡ d → r ≡ s
-count-answer d r s p q = one_answer count_said count_by count-again d r s p q
-
--- ---- a member
-member-by : Said (Span × Value) → Member
-member-by (says x) = member.Member x.0 x.1
-member-by nothing = member.Nothing
-member-by (refuses n) = member.Refused n
-
-member-again : (r : Member) → member-by (member_said r) ≡ r
-unfolding member-by
-member-again (member.Member s x) = refl
-member-again member.Nothing = refl
-member-again (member.Refused n) = refl
-
-pub member-answer : (d : Said (Span × Value)) (r s : Member) → member_said r ≡ d → member_said s ≡ d → r ≡ s
-member-answer d r s p q = one_answer member_said member-by member-again d r s p q
+pub member-answer : (d : Said Member) (r s : Result (Option Member) Refusal) → said r ≡ d → said s ≡ d → r ≡ s
+member-answer d r s p q = found-answer d r s p q
 
 -- ---- steps: the item and the place that follows, and so the record
-pub element-answer : (d : List ℕ) (self : Elements) (r s : Element) → ElementAllowed d self r → ElementAllowed d self s → r ≡ s
+pub element-answer : (d : List ℕ) (self : Elements) (r s : Step Value Elements) → ElementAllowed d self r → ElementAllowed d self s → r ≡ s
 element-answer d self r s p q =
     let e = found-answer (element_item d self.view self.at) r.item s.item p.item q.item in
     let v = p.view ∙ sym q.view in
     let a = p.at ∙ sym q.at in
     λ j. record { item = e j; next = record { view = v j; at = a j } }
 
-pub key-step-answer : (d : List ℕ) (self : Keys) (r s : KeyStep) → KeyAllowed d self r → KeyAllowed d self s → r ≡ s
+pub key-step-answer : (d : List ℕ) (self : Keys) (r s : Step Span Keys) → KeyAllowed d self r → KeyAllowed d self s → r ≡ s
 key-step-answer d self r s p q =
     let e = key-answer (key_item d self.view self.at) r.item s.item p.item q.item in
     let v = p.view ∙ sym q.view in
     let a = p.at ∙ sym q.at in
     λ j. record { item = e j; next = record { view = v j; at = a j } }
 
-pub member-step-answer : (d : List ℕ) (self : Members) (r s : MemberStep) → MemberAllowed d self r → MemberAllowed d self s → r ≡ s
+pub member-step-answer : (d : List ℕ) (self : Members) (r s : Step Member Members) → MemberAllowed d self r → MemberAllowed d self s → r ≡ s
 member-step-answer d self r s p q =
     let e = member-answer (member_item d self.view self.at) r.item s.item p.item q.item in
     let v = p.view ∙ sym q.view in
@@ -113,7 +87,7 @@ member-step-answer d self r s p q =
 -- ---- over a document that differs only past the end of the view, the step is the same record
 module _ (a b : List ℕ) (sa : length a ≤ 16777216) (sb : length b ≤ 16777216) where
   pub element-same : (self : Elements) → take (end_of self.view) a ≡ take (end_of self.view) b →
-      (r s : Element) → ElementAllowed a self r → ElementAllowed b self s → r ≡ s
+      (r s : Step Value Elements) → ElementAllowed a self r → ElementAllowed b self s → r ≡ s
   element-same self h r s p q =
       let v = self.view in
       let i = self.at in
@@ -126,7 +100,7 @@ module _ (a b : List ℕ) (sa : length a ≤ 16777216) (sb : length b ≤ 167772
       q
 
   pub key-step-same : (self : Keys) → take (end_of self.view) a ≡ take (end_of self.view) b →
-      (r s : KeyStep) → KeyAllowed a self r → KeyAllowed b self s → r ≡ s
+      (r s : Step Span Keys) → KeyAllowed a self r → KeyAllowed b self s → r ≡ s
   key-step-same self h r s p q =
       let v = self.view in
       let i = self.at in
@@ -139,7 +113,7 @@ module _ (a b : List ℕ) (sa : length a ≤ 16777216) (sb : length b ≤ 167772
       q
 
   pub member-step-same : (self : Members) → take (end_of self.view) a ≡ take (end_of self.view) b →
-      (r s : MemberStep) → MemberAllowed a self r → MemberAllowed b self s → r ≡ s
+      (r s : Step Member Members) → MemberAllowed a self r → MemberAllowed b self s → r ≡ s
   member-step-same self h r s p q =
       let v = self.view in
       let i = self.at in

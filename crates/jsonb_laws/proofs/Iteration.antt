@@ -11,7 +11,7 @@ use borrow.Author.Tests.{le-ltb, le-leb, lt-leb, leb-true, leb-false}
 use Rattle.value.specs.declared.View.{View}
 use Rattle.value.specs.declared.Span.{Span}
 use Rattle.value.specs.declared.Value.{Value}
-use Rattle.gate.specs.Said.{Said, nothing, refuses, read_said, part_said}
+use Rattle.gate.specs.Said.{Said, nothing, refuses, read_said}
 use Rattle.entry.specs.Entries.{entry_at, key_entry_at}
 use Rattle.gate.specs.Before.{matches, gated}
 use Rattle.jsonb.specs.Views.{elem_at, key_at}
@@ -42,7 +42,7 @@ member-by false true true false s x = refl
 pub member-item : (d : List ℕ) (v : View) (i : ℕ) → member_item d v i ≡ member_of (key_at d v i) (elem_at d v i)
 unfolding member_item key_at elem_at gated
 member-item d v i =
-    member-by (ltb 16777216 (length d)) v.kind.object (matches d v) (leb v.count i) (part_said (key_entry_at d v i)) (read_said (entry_at d v i))
+    member-by (ltb 16777216 (length d)) v.kind.object (matches d v) (leb v.count i) (read_said (key_entry_at d v i)) (read_said (entry_at d v i))
 
 -- ---- the places
 pub stays : (d : List ℕ) (v : View) (asked : Bool) (p : ℕ) → is_open d v asked p ≡ false → after (is_open d v asked p) p ≡ p

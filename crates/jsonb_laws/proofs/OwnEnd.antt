@@ -14,7 +14,9 @@ use lib.Seq.{slice, get_or-take, take-take}
 use mir.Syntax.{w16, w32, w64}
 use mir.Val.{to_z}
 use borrow.Author.Tests.{ltb-false, leb-false, le-ltb, lt-leb}
-use Rattle.refusal.specs.Told.{answer, refusal}
+use Rattle.std.specs.Prelude.{Result, Ok, Err}
+use Rattle.refusal.specs.declared.Refusal.{Refusal}
+use Rattle.refusal.specs.declared.Refusal.TheVariants as refusal
 use Rattle.raw.specs.Numbers.{le}
 use Rattle.length_field.specs.Length.{Groups, groups, got, short, long, above, field_of, length_at}
 use Rattle.raw.proofs.Bounds.{take-slice, le-inside, le_same}
@@ -23,12 +25,11 @@ use Rattle.codes.specs.Literals.{type_of as literal_type}
 use Rattle.columns.specs.Columns.{type_of as column_type}
 use Rattle.codes.specs.declared.types.JsonbType.{JsonbType}
 use Rattle.codes.specs.declared.types.JsonbType.TheVariants as type
+use Rattle.codes.specs.declared.literals.LiteralType.{LiteralType}
 use Rattle.codes.specs.declared.literals.LiteralType.TheVariants as literal
-use Rattle.codes.specs.declared.literals.LiteralOf.{LiteralOf}
-use Rattle.codes.specs.declared.literals.LiteralOf.TheVariants as literal-of
+use Rattle.length_field.specs.declared.Length.{Length}
+use Rattle.value.specs.declared.Span.{Span}
 use Rattle.columns.specs.declared.ColumnType.{ColumnType}
-use Rattle.columns.specs.declared.ColumnOf.{ColumnOf}
-use Rattle.columns.specs.declared.ColumnOf.TheVariants as column-of
 use Rattle.layout.specs.Layout.{offset_size, value_place, header_size, offset_at}
 use Rattle.layout.specs.declared.Kind.{Kind}
 use Rattle.layout.proofs.Inside.{size-two}
@@ -37,16 +38,10 @@ use Rattle.value.specs.declared.Number.TheVariants.{Int, Uint}
 use Rattle.value.specs.declared.Scalar.TheVariants as scalar
 use Rattle.value.specs.declared.Value.{Value}
 use Rattle.value.specs.declared.Value.TheVariants as value
-use Rattle.content.specs.Reading.{kind, span, viewed, literal_of, literal_at, double_of, number_at, parted, part_at, part_of, string_at, opaque_of, opaque_at}
-use Rattle.header.specs.Headers.{header_at}
+use Rattle.content.specs.Reading.{kind, span, viewed, literal_of, literal_at, double_of, number_at, bytes_of, part_at, part_of, string_at, opaque_of, opaque_at}
+use Rattle.header.specs.Headers.{header, header_at, then}
 use Rattle.content.specs.Reading.{content_at}
-use Rattle.content.specs.declared.Read.{Read}
-use Rattle.content.specs.declared.Read.TheVariants as read
 use Rattle.header.specs.declared.Header.{Header}
-use Rattle.header.specs.declared.Header.TheVariants.{Whole}
-use Rattle.header.specs.declared.Header.TheVariants as header
-use Rattle.content.specs.declared.Part.{Part}
-use Rattle.content.specs.declared.Part.TheVariants as part
 use Rattle.gate.proofs.Gates.{head-by}
 use Rattle.jsonb_laws.specs.Ends.{number_bytes, end_at}
 
@@ -80,7 +75,7 @@ least : (k : Kind) (n : ℕ) → 2 * offset_size k ≤ header_size k n
 unfolding header_size value_place
 least k n = omega arith
 
-module _ (a : List ℕ) (k : Kind) (i e n z : ℕ) (h : header_at a k i e ≡ Whole n z) where
+module _ (a : List ℕ) (k : Kind) (i e n z : ℕ) (h : header_at a k i e ≡ Ok (header n z)) where
   abbrev count : List ℕ → ℕ → ℕ
   count d f = offset_at d k i f
 
@@ -89,7 +84,9 @@ module _ (a : List ℕ) (k : Kind) (i e n z : ℕ) (h : header_at a k i e ≡ Wh
 
   facts : (ltb (e - i) (2 * offset_size k) ≡ false) × (ltb (e - i) (size a e) ≡ false) × (ltb (size a e) (header_size k (count a e)) ≡ false) × (count a e ≡ n) × (size a e ≡ z)
   unfolding header_at
-  facts = head-by (ltb (e - i) (2 * offset_size k)) (ltb (e - i) (size a e)) (ltb (size a e) (header_size k (count a e))) h
+  facts =
+      let f = head-by (ltb (e - i) (2 * offset_size k)) (ltb (e - i) (size a e)) (ltb (size a e) (header_size k (count a e))) h in
+      (f.0, f.1, f.2, ap (λ (x : Header). x.count) f.3, ap (λ (x : Header). x.size) f.3)
 
   header-fits : header_size k n ≤ z
   header-fits = rw (facts.3, facts.4) at (ltb-false (size a e) (header_size k (count a e)) facts.2)
@@ -101,7 +98,7 @@ module _ (a : List ℕ) (k : Kind) (i e n z : ℕ) (h : header_at a k i e ≡ Wh
   pub header-ends : i + z ≤ e
   header-ends = omega (arith, size-two k, fields_in, facts.4, ltb-false (e - i) (size a e) facts.1)
 
-  pub header-again : (b : List ℕ) (f : ℕ) → take (i + z) a ≡ take (i + z) b → i + z ≤ f → header_at b k i f ≡ Whole n z
+  pub header-again : (b : List ℕ) (f : ℕ) → take (i + z) a ≡ take (i + z) b → i + z ≤ f → header_at b k i f ≡ Ok (header n z)
   unfolding header_at
   header-again b f s y =
       let t = fields_in in
@@ -117,13 +114,13 @@ record Own {R : Type 0} (a b : List ℕ) (i e z : ℕ) (reads : ℕ → R) (r : 
   high : z ≤ e
   again : take z a ≡ take z b → (f : ℕ) → z ≤ f → reads f ≡ r
 
-abbrev ReadOwn : List ℕ → List ℕ → ℕ → ℕ → (ℕ → Read) → Read → Type 0
-ReadOwn a b i e reads (read.Value x) = Own a b i e (end_at i x) reads (read.Value x)
-ReadOwn a b i e reads (read.Refused n) = Unit {0}
+abbrev ReadOwn : List ℕ → List ℕ → ℕ → ℕ → (ℕ → Result Value Refusal) → Result Value Refusal → Type 0
+ReadOwn a b i e reads (Ok x) = Own a b i e (end_at i x) reads (Ok x)
+ReadOwn a b i e reads (Err r) = Unit {0}
 
-abbrev PartOwn : List ℕ → List ℕ → ℕ → ℕ → (ℕ → Part) → Part → Type 0
-PartOwn a b i e reads (part.Bytes s) = Own a b i e (s.start + s.len) reads (part.Bytes s)
-PartOwn a b i e reads (part.Refused n) = Unit {0}
+abbrev PartOwn : List ℕ → List ℕ → ℕ → ℕ → (ℕ → Result Span Refusal) → Result Span Refusal → Type 0
+PartOwn a b i e reads (Ok s) = Own a b i e (s.start + s.len) reads (Ok s)
+PartOwn a b i e reads (Err r) = Unit {0}
 
 -- ---- a length field: the groups that it has decide it
 abbrev Front : ℕ → List ℕ → List ℕ → Groups → Type 0
@@ -172,47 +169,52 @@ module _ (a b : List ℕ) (i e : ℕ) where
       ∙ take-slice k i (i + k) b (le_refl (i + k))
       ∙ sym (take-slice k i f b y)
 
-  part_by : (g : Groups) → groups 5 (slice i e a) ≡ g → PartOwn a b i e (λ (f : ℕ). part_at b i f) (parted i e g)
+  abbrev part_by_groups : ℕ → ℕ → Groups → Result Span Refusal
+  part_by_groups at f g = then (field_of at g) (bytes_of f)
+
+  part_by : (g : Groups) → groups 5 (slice i e a) ≡ g → PartOwn a b i e (λ (f : ℕ). part_at b i f) (part_by_groups i e g)
   unfolding length_at part_at
   part_by (got v k) q = go (ltb v 4294967296) (ltb (e - (i + k)) v) refl refl
     where
       go : (c d : Bool) → ltb v 4294967296 ≡ c → ltb (e - (i + k)) v ≡ d →
-          PartOwn a b i e (λ (f : ℕ). part_at b i f) (cond c (cond d (part.Refused 3) (part.Bytes (span (i + k) v))) (part.Refused 8))
-      go true true x y = tt
+          PartOwn a b i e (λ (f : ℕ). part_at b i f)
+          (then (cond {A = Result Length Refusal} c (Ok (record { length = v; next = i + k })) (Err refusal.Length))
+          (λ (l : Length). cond {A = Result Span Refusal} (ltb (e - l.next) l.length) (Err refusal.Cut) (Ok (span l.next l.length))))
+      go true true x y = rw y tt
       go true false x y =
-          let o : length_at a i e ≡ answer (v ∷ (i + k) ∷ []) =
-          ap (field_of i) q ∙ ap (λ (c : Bool). cond c (answer (v ∷ (i + k) ∷ [])) (refusal 8)) x in
+          let o : length_at a i e ≡ Ok (record { length = v; next = i + k }) =
+          ap (field_of i) q ∙ ap (λ (c : Bool). cond {A = Result Length Refusal} c (Ok (record { length = v; next = i + k })) (Err refusal.Length)) x in
           let p = length-placed a i e v (i + k) o in
-          record {
+          rw y (record {
             low = omega (arith, p.past);
             high = omega (arith, p.within, ltb-false (e - (i + k)) v y);
             again = λ s f z.
                 let m = take_less a b (i + k) (i + k + v) (omega arith) s in
                 let g = subst (Front 5 (slice i e a) (slice i f b)) q (front 5 (slice i e a) (slice i f b)) (bytes-again k f p.within (omega arith) m) in
-                ap (parted i f) g ∙ rw (x, le-ltb (f - (i + k)) v (omega arith));
-          }
+                ap (part_by_groups i f) g ∙ rw (x, le-ltb (f - (i + k)) v (omega arith)) refl;
+          })
       go false d x y = tt
   part_by short q = tt
   part_by long q = tt
 
   part-own : PartOwn a b i e (λ (f : ℕ). part_at b i f) (part_at a i e)
-  unfolding part_at
+  unfolding part_at length_at
   part-own = part_by (groups 5 (slice i e a)) refl
 
 -- ---- strings and opaque values
-string-of : (a b : List ℕ) (i e : ℕ) (p : Part) → PartOwn a b i e (λ (f : ℕ). part_at b i f) p →
+string-of : (a b : List ℕ) (i e : ℕ) (p : Result Span Refusal) → PartOwn a b i e (λ (f : ℕ). part_at b i f) p →
     ReadOwn a b i e (λ (f : ℕ). string_at b i f) (part_of type.String scalar.String p)
 unfolding string_at
-string-of a b i e (part.Bytes s) o =
+string-of a b i e (Ok s) o =
     record { low = o.low; high = o.high; again = λ q f z. ap (part_of type.String scalar.String) (o.again q f z) }
-string-of a b i e (part.Refused n) o = tt
+string-of a b i e (Err r) o = tt
 
 string-own : (a b : List ℕ) (i e : ℕ) → ReadOwn a b i e (λ (f : ℕ). string_at b i f) (string_at a i e)
 unfolding string_at
 string-own a b i e = string-of a b i e (part_at a i e) (part-own a b i e)
 
-abbrev number : JsonbType → Number → Read
-number t x = read.Value (value.Scalar t (scalar.Number x))
+abbrev number : JsonbType → Number → Result Value Refusal
+number t x = Ok (value.Scalar t (scalar.Number x))
 
 -- a byte that is tested and read, and what is read after it
 module _ (a b : List ℕ) (i : ℕ) where
@@ -220,53 +222,53 @@ module _ (a b : List ℕ) (i : ℕ) where
   tested-again z f x g h s y = rw (lt-leb f i (omega arith)) (ap g (sym (byte-same a b z s i h)))
 
   module _ (e : ℕ) where
-    opaque-known : (c : ColumnType) (p : Part) → column_type (get_or a i 0) ≡ column-of.Known c → PartOwn a b (i + 1) e (λ (f : ℕ). part_at b (i + 1) f) p →
+    opaque-known : (c : ColumnType) (p : Result Span Refusal) → column_type (get_or a i 0) ≡ Ok c → PartOwn a b (i + 1) e (λ (f : ℕ). part_at b (i + 1) f) p →
         ReadOwn a b i e (λ (f : ℕ). opaque_at b i f) (part_of type.Opaque (scalar.Opaque c) p)
     unfolding opaque_at
-    opaque-known c (part.Bytes s) q o =
+    opaque-known c (Ok s) q o =
         record {
           low = omega (arith, o.low);
           high = o.high;
           again = λ t f z.
-              tested-again (s.start + s.len) f (read.Refused 3) (λ (n : ℕ). opaque_of (column_type n) (part_at b (i + 1) f)) (omega (arith, o.low)) t z
+              tested-again (s.start + s.len) f (Err refusal.Cut) (λ (n : ℕ). opaque_of (column_type n) (part_at b (i + 1) f)) (omega (arith, o.low)) t z
               ∙ rw (q, o.again t f z);
         }
-    opaque-known c (part.Refused n) q o = tt
+    opaque-known c (Err r) q o = tt
 
-    opaque-by : (c : ColumnOf) → column_type (get_or a i 0) ≡ c → ReadOwn a b i e (λ (f : ℕ). opaque_at b i f) (opaque_of c (part_at a (i + 1) e))
-    opaque-by (column-of.Known c) q = opaque-known c (part_at a (i + 1) e) q (part-own a b (i + 1) e)
-    opaque-by (column-of.Refused n) q = tt
+    opaque-by : (c : Result ColumnType Refusal) → column_type (get_or a i 0) ≡ c → ReadOwn a b i e (λ (f : ℕ). opaque_at b i f) (opaque_of c (part_at a (i + 1) e))
+    opaque-by (Ok c) q = opaque-known c (part_at a (i + 1) e) q (part-own a b (i + 1) e)
+    opaque-by (Err r) q = tt
 
     opaque-own : ReadOwn a b i e (λ (f : ℕ). opaque_at b i f) (opaque_at a i e)
     unfolding opaque_at
     opaque-own = go (leb e i)
       where
-        go : (t : Bool) → ReadOwn a b i e (λ (f : ℕ). opaque_at b i f) (cond t (read.Refused 3) (opaque_of (column_type (get_or a i 0)) (part_at a (i + 1) e)))
+        go : (t : Bool) → ReadOwn a b i e (λ (f : ℕ). opaque_at b i f) (cond t (Err refusal.Cut) (opaque_of (column_type (get_or a i 0)) (part_at a (i + 1) e)))
         go true = tt
         go false = opaque-by (column_type (get_or a i 0)) refl
 
     -- ---- literals
     module _ (h : i < e) where
-      one_byte : (x : Value) → end_at i x ≡ i + 1 → literal_of (literal_type (get_or a i 0)) ≡ read.Value x → ReadOwn a b i e (λ (f : ℕ). literal_at b i f) (read.Value x)
+      one_byte : (x : Value) → end_at i x ≡ i + 1 → literal_of (literal_type (get_or a i 0)) ≡ Ok x → ReadOwn a b i e (λ (f : ℕ). literal_at b i f) (Ok x)
       unfolding literal_at
       one_byte x z q =
           record {
             low = omega arith;
             high = omega arith;
-            again = λ t f y. tested-again (end_at i x) f (read.Refused 3) (λ (n : ℕ). literal_of (literal_type n)) (omega arith) t y ∙ q;
+            again = λ t f y. tested-again (end_at i x) f (Err refusal.Cut) (λ (n : ℕ). literal_of (literal_type n)) (omega arith) t y ∙ q;
           }
 
-      literal-by : (l : LiteralOf) → literal_type (get_or a i 0) ≡ l → ReadOwn a b i e (λ (f : ℕ). literal_at b i f) (literal_of l)
-      literal-by (literal-of.Known literal.Null) q = one_byte (value.Scalar type.Literal scalar.Null) refl (ap literal_of q)
-      literal-by (literal-of.Known literal.True) q = one_byte (value.Scalar type.Literal (scalar.Boolean true)) refl (ap literal_of q)
-      literal-by (literal-of.Known literal.False) q = one_byte (value.Scalar type.Literal (scalar.Boolean false)) refl (ap literal_of q)
-      literal-by (literal-of.Refused n) q = tt
+      literal-by : (l : Result LiteralType Refusal) → literal_type (get_or a i 0) ≡ l → ReadOwn a b i e (λ (f : ℕ). literal_at b i f) (literal_of l)
+      literal-by (Ok literal.Null) q = one_byte (value.Scalar type.Literal scalar.Null) refl (ap literal_of q)
+      literal-by (Ok literal.True) q = one_byte (value.Scalar type.Literal (scalar.Boolean true)) refl (ap literal_of q)
+      literal-by (Ok literal.False) q = one_byte (value.Scalar type.Literal (scalar.Boolean false)) refl (ap literal_of q)
+      literal-by (Err r) q = tt
 
     literal-own : ReadOwn a b i e (λ (f : ℕ). literal_at b i f) (literal_at a i e)
     unfolding literal_at
     literal-own = go (leb e i) refl
       where
-        go : (t : Bool) → leb e i ≡ t → ReadOwn a b i e (λ (f : ℕ). literal_at b i f) (cond t (read.Refused 3) (literal_of (literal_type (get_or a i 0))))
+        go : (t : Bool) → leb e i ≡ t → ReadOwn a b i e (λ (f : ℕ). literal_at b i f) (cond t (Err refusal.Cut) (literal_of (literal_type (get_or a i 0))))
         go true l = tt
         go false l = literal-by (leb-false e i l) (literal_type (get_or a i 0)) refl
 
@@ -277,7 +279,7 @@ module _ (a b : List ℕ) (i : ℕ) where
     number-own t w make n p = go (ltb (e - i) w) refl
       where
         go : (c : Bool) → ltb (e - i) w ≡ c →
-            ReadOwn a b i e (λ (f : ℕ). cond (ltb (f - i) w) (read.Refused 3) (number t (make (le w b i f)))) (cond c (read.Refused 3) (number t (make (le w a i e))))
+            ReadOwn a b i e (λ (f : ℕ). cond (ltb (f - i) w) (Err refusal.Cut) (number t (make (le w b i f)))) (cond c (Err refusal.Cut) (number t (make (le w a i e))))
         go true l = tt
         go false l =
             let h = ltb-false (e - i) w l in
@@ -289,14 +291,14 @@ module _ (a b : List ℕ) (i : ℕ) where
             }
 
     -- ---- containers
-    container-by : (k : Kind) (h : Header) → header_at a k i e ≡ h → ReadOwn a b i e (λ (f : ℕ). viewed k i (header_at b k i f)) (viewed k i h)
-    container-by k (Whole n z) q =
+    container-by : (k : Kind) (h : Result Header Refusal) → header_at a k i e ≡ h → ReadOwn a b i e (λ (f : ℕ). viewed k i (header_at b k i f)) (viewed k i h)
+    container-by k (Ok h) q =
         record {
-          low = omega (arith, size-two k, fields_in a k i e n z q);
-          high = header-ends a k i e n z q;
-          again = λ s f y. ap (viewed k i) (header-again a k i e n z q b f s y);
+          low = omega (arith, size-two k, fields_in a k i e h.count h.size q);
+          high = header-ends a k i e h.count h.size q;
+          again = λ s f y. ap (viewed k i) (header-again a k i e h.count h.size q b f s y);
         }
-    container-by k (header.Refused n) q = tt
+    container-by k (Err r) q = tt
 
     container-own : (k : Kind) → ReadOwn a b i e (λ (f : ℕ). viewed k i (header_at b k i f)) (viewed k i (header_at a k i e))
     container-own k = container-by k (header_at a k i e) refl
@@ -318,13 +320,13 @@ module _ (a b : List ℕ) (i : ℕ) where
     content-own type.String = string-own a b i e
     content-own type.Opaque = opaque-own
 
-    module _ (t : JsonbType) (x : Value) (q : content_at a t i e ≡ read.Value x) where
-      own : Own a b i e (end_at i x) (λ (f : ℕ). content_at b t i f) (read.Value x)
+    module _ (t : JsonbType) (x : Value) (q : content_at a t i e ≡ Ok x) where
+      own : Own a b i e (end_at i x) (λ (f : ℕ). content_at b t i f) (Ok x)
       own = subst (ReadOwn a b i e (λ (f : ℕ). content_at b t i f)) q (content-own t)
 
       -- a value has a byte at least, and ends where it was read up to or before
       pub content-ends : (i < end_at i x) × (end_at i x ≤ e)
       content-ends = (own.low, own.high)
 
-      pub content-again : take (end_at i x) a ≡ take (end_at i x) b → (f : ℕ) → end_at i x ≤ f → content_at b t i f ≡ read.Value x
+      pub content-again : take (end_at i x) a ≡ take (end_at i x) b → (f : ℕ) → end_at i x ≤ f → content_at b t i f ≡ Ok x
       content-again s f y = own.again s f y

@@ -7,45 +7,43 @@ use mathlib.Core.List.{List}
 use Prim.Native.Nat.{ℕ, zero, suc, ◌+◌, ◌≤◌, ◌<◌}
 use native.Mathlib.Nat.{le_refl}
 use native.Mathlib.Omega.{arith}
-use lib.Dec.{leb, eqb}
-use lib.ListN.{length, get_or, take, drop}
+use lib.Dec.{leb}
+use lib.ListN.{length, get_or, take}
 use mir.Syntax.{w16, w32, w64}
 use mir.Val.{to_z}
 use borrow.Author.Tests.{leb-false, le-ltb, lt-leb, eq-eqb}
 use Rattle.raw.specs.Numbers.{le}
-use Rattle.length_field.specs.Length.{groups}
+use Rattle.length_field.proofs.Bounds.{length-same}
 use Rattle.raw.proofs.Bounds.{le_same}
 use Rattle.codes.specs.Literals.{type_of as literal_type}
 use Rattle.columns.specs.Columns.{type_of as column_type}
 use Rattle.codes.specs.Types.{type_of}
 use Rattle.codes.specs.declared.types.JsonbType.{JsonbType}
 use Rattle.codes.specs.declared.types.JsonbType.TheVariants as type
-use Rattle.codes.specs.declared.types.TypeOf.{TypeOf}
-use Rattle.codes.specs.declared.types.TypeOf.TheVariants as type-of
+use Rattle.std.specs.Prelude.{Result, Ok, Err}
+use Rattle.refusal.specs.declared.Refusal.{Refusal}
+use Rattle.refusal.specs.declared.Refusal.TheVariants as refusal
 use Rattle.layout.specs.Layout.{offset_size, header_size, offset_at, key_place}
-use Rattle.content.specs.Reading.{kind, viewed, literal_of, literal_at, number_at, double_of, parted, part_at, part_of, string_at, opaque_of, opaque_at}
+use Rattle.content.specs.Reading.{kind, viewed, literal_of, literal_at, number_at, double_of, part_at, part_of, string_at, opaque_of, opaque_at}
 use Rattle.content.specs.Reading.{content_at, read_at}
-use Rattle.header.specs.Headers.{header_at, place_fault, header_read}
+use Rattle.header.specs.Headers.{header_at, place_of, header_read}
 use Rattle.layout.specs.declared.Kind.{Kind}
 use Rattle.value.specs.declared.View.{View}
 use Rattle.value.specs.declared.Number.{Number}
 use Rattle.value.specs.declared.Number.TheVariants.{Int, Uint}
 use Rattle.value.specs.declared.Scalar.TheVariants as scalar
-use Rattle.content.specs.declared.Read.TheVariants.{Refused}
-use Rattle.content.specs.declared.Part.{Part}
 use Rattle.header.specs.declared.Header.{Header}
-use Rattle.header.specs.declared.Header.TheVariants as header
-use Rattle.header.proofs.Placed.{placed-within}
+use Rattle.header.proofs.Placed.{placed-within, placed-so}
 use Rattle.value.specs.declared.Span.{Span}
 use Rattle.value.specs.declared.Value.{Value}
-use Rattle.gate.specs.Said.{Said, nothing, refuses, read_said, part_said}
+use Rattle.gate.specs.Said.{Said, nothing, refuses, read_said}
 use Rattle.entry.specs.Entries.{end_of, place_at, pointed_at, typed_entry, entry_of, entry_at, key_of, key_entry_at}
 use Rattle.gate.specs.Before.{names, matches, gated, Whole, gate_of}
 use Rattle.jsonb.specs.Views.{elem_at, key_at, count_at}
+use Rattle.steps.specs.declared.Member.{Member}
 use Rattle.steps.specs.Steps.{is_open, after, member_of, element_item, key_item, member_item}
-use Rattle.gate.specs.declared.Gate.TheVariants.{Open}
 use Rattle.layout.proofs.Inside.{value-inside}
-use Rattle.gate.proofs.Gates.{no_truth, read_by, matched, open-whole}
+use Rattle.gate.proofs.Gates.{matched, open-whole}
 use Rattle.jsonb_laws.specs.Walked.{steps_to}
 use Rattle.jsonb_laws.proofs.OwnEnd.{byte-same, take_less, reaches, header-ends, header-again}
 
@@ -69,11 +67,11 @@ module _ (a b : List ℕ) (e : ℕ) (s : take e a ≡ take e b) where
 
   part_same : (i : ℕ) → part_at a i e ≡ part_at b i e
   unfolding part_at
-  part_same i = ap (λ (l : List ℕ). parted i e (groups 5 (drop i l))) s
+  part_same i = rw (length-same a b i e s) refl
 
   literal-same : (i : ℕ) → literal_at a i e ≡ literal_at b i e
   unfolding literal_at
-  literal-same i = tested-same i (Refused 3) (λ (n : ℕ). literal_of (literal_type n))
+  literal-same i = tested-same i (Err refusal.Cut) (λ (n : ℕ). literal_of (literal_type n))
 
   string-same : (i : ℕ) → string_at a i e ≡ string_at b i e
   unfolding string_at
@@ -82,8 +80,8 @@ module _ (a b : List ℕ) (e : ℕ) (s : take e a ≡ take e b) where
   opaque-same : (i : ℕ) → opaque_at a i e ≡ opaque_at b i e
   unfolding opaque_at
   opaque-same i =
-      tested-same i (Refused 3) (λ (n : ℕ). opaque_of (column_type n) (part_at a (i + 1) e))
-      ∙ ap (λ (p : Part). cond (leb e i) (Refused 3) (opaque_of (column_type (get_or b i 0)) p)) (part_same (i + 1))
+      tested-same i (Err refusal.Cut) (λ (n : ℕ). opaque_of (column_type n) (part_at a (i + 1) e))
+      ∙ ap (λ (p : Result Span Refusal). cond (leb e i) (Err refusal.Cut) (opaque_of (column_type (get_or b i 0)) p)) (part_same (i + 1))
 
   number_same : (t : JsonbType) (w : ℕ) (i : ℕ) (f : ℕ → Number) → number_at t w i e (f (le w a i e)) ≡ number_at t w i e (f (le w b i e))
   number_same t w i f = ap (λ (n : ℕ). number_at t w i e (f n)) (le_same w a b i e s)
@@ -106,7 +104,7 @@ module _ (a b : List ℕ) (e : ℕ) (s : take e a ≡ take e b) where
   content-same type.Opaque i = opaque-same i
 
   pub read_same : (t : JsonbType) (i : ℕ) → length a ≤ 16777216 → length b ≤ 16777216 → e ≤ length a → e ≤ length b → read_at a t i e ≡ read_at b t i e
-  unfolding read_at place_fault
+  unfolding read_at place_of
   read_same t i sa sb ea eb =
       rw (le-ltb 16777216 (length a) sa, le-ltb 16777216 (length b) sb, le-ltb (length a) e ea, le-ltb (length b) e eb, content-same t i)
 
@@ -131,9 +129,9 @@ module _ (a b : List ℕ) (v : View) (s : take (end_of v) a ≡ take (end_of v) 
         let m = body + offset_size v.kind in
         rw (read_same a b m (take_less a b m (end_of v) h s) t body sa sb (omega arith) (omega arith), pointed-same t body)
 
-    entry-of-same : (r : TypeOf) (body : ℕ) → body + offset_size v.kind ≤ end_of v → entry_of a v r body ≡ entry_of b v r body
-    entry-of-same (type-of.Known t) body h = typed-same t body h
-    entry-of-same (type-of.Refused n) body h = refl
+    entry-of-same : (r : Result JsonbType Refusal) (body : ℕ) → body + offset_size v.kind ≤ end_of v → entry_of a v r body ≡ entry_of b v r body
+    entry-of-same (Ok t) body h = typed-same t body h
+    entry-of-same (Err r) body h = refl
 
     pub entry-same : (i : ℕ) → header_size v.kind v.count ≤ v.size → i < v.count → entry_at a v i ≡ entry_at b v i
     unfolding entry_at
@@ -143,22 +141,22 @@ module _ (a b : List ℕ) (v : View) (s : take (end_of v) a ≡ take (end_of v) 
         ∙ entry-of-same (type_of (get_or b (place_at v i) 0)) (place_at v i + 1) (omega arith)
 
 -- ---- what a view gives, where the documents are the same up to its end
-gate-open : (d : List ℕ) (v : View) (i : ℕ) → length d ≤ 16777216 → matches d v ≡ true → i < v.count → gate_of d v true i ≡ Open
+gate-open : (d : List ℕ) (v : View) (i : ℕ) → length d ≤ 16777216 → matches d v ≡ true → i < v.count → gate_of d v true i ≡ Ok true
 unfolding gate_of
 gate-open d v i sd md l = rw (le-ltb 16777216 (length d) sd, md, lt-leb v.count i l)
 
 whole : (d : List ℕ) (v : View) (i : ℕ) → length d ≤ 16777216 → matches d v ≡ true → i < v.count → Whole d v i
-whole d v i sd md l = open-whole d v true i refl (gate-open d v i sd md l)
+whole d v i sd md l = open-whole d v true i (gate-open d v i sd md l)
 
 matches-again : (a b : List ℕ) (v : View) → take (end_of v) a ≡ take (end_of v) b → length b ≤ 16777216 → matches a v ≡ true → matches b v ≡ true
 unfolding matches header_read
 matches-again a b v s sb m =
     let k = v.kind in
     let i = v.start in
-    let h = read_by (eqb (place_fault a i (length a)) 0) (header_at a k i (length a)) (place_fault a i (length a)) (matched a v m) in
+    let h = (placed-so a i (length a) (header_at a k i (length a)) (matched a v m)).0 in
     let y = reaches a b (end_of v) s (header-ends a k i (length a) v.count v.size h) in
-    let r = placed-within b i (length b) header.Refused (record { order = omega arith; inside = le_refl (length b); short = sb }) in
-    ap (λ (x : Header). names x v.count v.size) (r ∙ header-again a k i (length a) v.count v.size h b (length b) s y)
+    let r = placed-within b i (length b) (record { order = omega arith; inside = le_refl (length b); short = sb }) in
+    ap (λ (x : Result Header Refusal). names x v.count v.size) (r ∙ header-again a k i (length a) v.count v.size h b (length b) s y)
     ∙ rw (eq-eqb v.count v.count refl, eq-eqb v.size v.size refl)
 
 agree : (m n : Bool) → (m ≡ true → n ≡ true) → (n ≡ true → m ≡ true) → m ≡ n
@@ -182,8 +180,8 @@ module _ (a b : List ℕ) (v : View) (s : take (end_of v) a ≡ take (end_of v) 
       go false m n t e ma mb h = refl
       go true true true true e ma mb h = refl
       go true true true false e ma mb h = f ma mb (leb-false v.count i h)
-      go true true false t e ma mb h = no_truth (sym e)
-      go true false true t e ma mb h = no_truth e
+      go true true false t e ma mb h = cc
+      go true false true t e ma mb h = cc
       go true false false t e ma mb h = refl
 
   pub count_same : count_at a v ≡ count_at b v
@@ -209,8 +207,8 @@ module _ (a b : List ℕ) (v : View) (s : take (end_of v) a ≡ take (end_of v) 
         let wb = whole b v i sb mb l in
         ap read_said (entry-same a b v s sa sb wa.inside wb.inside i wa.header l)
 
-    part-said-same : part_said (key_entry_at a v i) ≡ part_said (key_entry_at b v i)
-    part-said-same = ap part_said (key-same a b v s i)
+    part-said-same : read_said (key_entry_at a v i) ≡ read_said (key_entry_at b v i)
+    part-said-same = ap read_said (key-same a b v s i)
 
     pub elem-at-same : elem_at a v i ≡ elem_at b v i
     unfolding elem_at
@@ -218,7 +216,7 @@ module _ (a b : List ℕ) (v : View) (s : take (end_of v) a ≡ take (end_of v) 
 
     pub key-at-same : key_at a v i ≡ key_at b v i
     unfolding key_at
-    key-at-same = gated-same v.kind.object i (part_said (key_entry_at a v i)) (part_said (key_entry_at b v i)) (λ ma mb l. part-said-same)
+    key-at-same = gated-same v.kind.object i (read_said (key_entry_at a v i)) (read_said (key_entry_at b v i)) (λ ma mb l. part-said-same)
 
     pub element-item-same : element_item a v i ≡ element_item b v i
     unfolding element_item
@@ -226,15 +224,15 @@ module _ (a b : List ℕ) (v : View) (s : take (end_of v) a ≡ take (end_of v) 
 
     pub key-item-same : key_item a v i ≡ key_item b v i
     unfolding key_item
-    key-item-same = gated-same v.kind.object i (part_said (key_entry_at a v i)) (part_said (key_entry_at b v i)) (λ ma mb l. part-said-same)
+    key-item-same = gated-same v.kind.object i (read_said (key_entry_at a v i)) (read_said (key_entry_at b v i)) (λ ma mb l. part-said-same)
 
-    abbrev member : List ℕ → Said (Span × Value)
-    member d = member_of (part_said (key_entry_at d v i)) (read_said (entry_at d v i))
+    abbrev member : List ℕ → Said Member
+    member d = member_of (read_said (key_entry_at d v i)) (read_said (entry_at d v i))
 
     member-same : matches a v ≡ true → matches b v ≡ true → i < v.count → member a ≡ member b
     member-same ma mb l =
         ap (λ (k : Said Span). member_of k (read_said (entry_at a v i))) part-said-same
-        ∙ ap (λ (x : Said Value). member_of (part_said (key_entry_at b v i)) x) (said_same ma mb l)
+        ∙ ap (λ (x : Said Value). member_of (read_said (key_entry_at b v i)) x) (said_same ma mb l)
 
     pub member-item-same : member_item a v i ≡ member_item b v i
     unfolding member_item

@@ -10,6 +10,9 @@ ghost use Rattle.steps.specs.Steps.{is_open, after, member_of, element_item, key
 use refusal::Refusal;
 use value::{Span, Value, View};
 
+// The three places have the same fields and stay three types, as document 01's list of forms has them: the type says what a step reads, which one type
+// would need a marker for.
+
 // A place in an iteration over the elements of an array.
 #[derive(Clone, Copy, Debug, PartialEq, Eq)]
 pub struct Elements {

@@ -1,5 +1,6 @@
-mod Cases
+mod Keys
+mod Values
+mod Entries
 mod Node
 mod Going
-mod Tested
-mod Seen
+mod Root

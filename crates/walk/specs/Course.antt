@@ -1,22 +1,61 @@
--- What a value leads to, in the shape of the code; no public promise rests on it.
+-- An entry and what is below it, in the shape of the code; no public promise rests on it.
 -- Assumes nothing.
-use Rattle.std.specs.Prelude.{Bool, true, false}
+use Rattle.std.specs.Prelude.{ℕ, ◌+◌, ◌%◌, cond, List, ltb, eqb, Result, Ok, Err, Option, Some, None, ⊤}
+use Rattle.refusal.specs.declared.Refusal.{Refusal}
+use Rattle.refusal.specs.Refusals.{number_of}
 use Rattle.value.specs.declared.View.{View}
-use Rattle.value.specs.declared.Value.{Value}
-use Rattle.value.specs.declared.Value.TheVariants as value
-use Rattle.content.specs.declared.Read.{Read}
-use Rattle.content.specs.declared.Read.TheVariants as read
-use Rattle.walk.specs.declared.Leads.{Leads}
-use Rattle.walk.specs.declared.Leads.TheVariants.{Array, Object, Nothing}
+use Rattle.value.specs.declared.Span.{Span}
+use Rattle.value.specs.declared.Value.TheVariants.{Container}
+use Rattle.content.specs.Reading.{kind, view}
+use Rattle.entry.specs.Entries.{place_at}
+use Rattle.events.specs.declared.Event.{Event}
+use Rattle.events.specs.Listing.{Listing, end}
+use Rattle.events.specs.Lay.{Laid, laid, put, room}
+use Rattle.events.specs.Text.{text_at}
+use Rattle.events.specs.Walked.{Done, Stopped}
+use Rattle.sight.specs.declared.Sight.{Sight}
+use Rattle.sight.specs.Sights.{sight_at}
+use Rattle.paths.specs.Levels.{children}
+use Rattle.walk.specs.declared.Entry.{Entry}
 
-abbrev pub leads_by : View → Bool → Leads
-leads_by v true = Object v
-leads_by v false = Array v
+-- of what is seen, strings alone are text: 12 is their type code
+unfoldable pub seen_text : List ℕ → Sight → Result ⊤ ℕ
+seen_text d x = cond (eqb x.code 12) (text_at d x.part) (Ok _)
 
-abbrev pub leads_of : Value → Leads
-leads_of (value.Scalar t s) = Nothing
-leads_of (value.Container v) = leads_by v v.kind.object
+-- the container that is seen: the codes 0 to 3 are containers, below 2 objects, and odd ones are large
+unfoldable pub seen_container : Sight → Option View
+seen_container x = cond (ltb 3 x.code) None (Some (view x.part.start x.part.len x.extra (kind (ltb x.code 2) (eqb (x.code % 2) 1))))
 
-abbrev pub leads_to : Read → Leads
-leads_to (read.Value x) = leads_of x
-leads_to (read.Refused n) = Nothing
+abbrev pub container_in : Result Sight Refusal → Option View
+container_in (Ok x) = seen_container x
+container_in (Err r) = None
+
+-- what is seen of an entry at a place, and the event that shows it
+abbrev pub entry_sight : List ℕ → Entry → ℕ → Result Sight Refusal
+entry_sight d e p = sight_at d e.view.kind.large e.view.start e.view.size p
+
+abbrev pub seen_event : Entry → Span → Sight → Event
+seen_event e key x =
+    record { code = x.code; depth = e.depth; position = e.position; key = key; part = x.part; extra = x.extra; parent = e.parent }
+
+-- what is laid of an entry at the place p, as event n: by its text, by what is seen of it, by its key's text, and by its key, whose entry stands at q
+abbrev pub by_text : Entry → Span → ℕ → List ℕ → ℕ → Sight → Result ⊤ ℕ → Laid
+by_text e key p out n x (Ok u) = cond (ltb n (room out)) (laid (Done (n + 1)) (put out n (seen_event e key x))) (laid (Stopped 12 p n) out)
+by_text e key p out n x (Err b) = laid (Stopped 9 b n) out
+
+abbrev pub by_sight : List ℕ → Entry → Span → ℕ → List ℕ → ℕ → Result Sight Refusal → Laid
+by_sight d e key p out n (Ok x) = by_text e key p out n x (seen_text d x)
+by_sight d e key p out n (Err r) = laid (Stopped (number_of r) p n) out
+
+abbrev pub by_key_text : List ℕ → Entry → Span → ℕ → List ℕ → ℕ → Result ⊤ ℕ → Laid
+by_key_text d e key p out n (Ok u) = by_sight d e key p out n (entry_sight d e p)
+by_key_text d e key p out n (Err b) = laid (Stopped 9 b n) out
+
+abbrev pub by_key : List ℕ → Entry → ℕ → ℕ → List ℕ → ℕ → Result Span Refusal → Laid
+by_key d e q p out n (Ok key) = by_key_text d e key p out n (text_at d key)
+by_key d e q p out n (Err r) = laid (Stopped (number_of r) q n) out
+
+-- what is below a container that was listed, at event n, with so many levels left
+abbrev pub below : ℕ → List ℕ → ℕ → Option View → Listing
+below l d n (Some u) = children l d n (Container u)
+below l d n None = end

@@ -2,4 +2,3 @@
 -- Assumes nothing.
 pub mod Course
 pub mod Tested
-pub mod Seen
