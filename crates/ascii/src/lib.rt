@@ -83,6 +83,7 @@ pub fn ascii_end(s: &[u8], at: usize) -> usize
         return at + word.trailing_zeros() as usize / 8;
     }
     let mut i = at + 8;
+    // a `for` over the blocks would need their place beside it
     while i + 64 <= s.len() && are_ascii::<8>(s, i) {
         i += 64;
     }
@@ -111,7 +112,11 @@ fn ends<const W: usize>(s: &[u8]) -> usize
     requires { (8 * W ≤ length s.now) × (length s.now ≤ 16 * W) }
     ensures { result ≡ ascii_end s.now 0 }
 {
-    let at = if are_ascii::<W>(s, 0) { s.len() - 8 * W } else { 0 };
+    let at = if are_ascii::<W>(s, 0) {
+        s.len() - 8 * W
+    } else {
+        0
+    };
     past::<W>(s, at)
 }
 

@@ -8,33 +8,35 @@ use native.Mathlib.Nat.{zero-mod, zero-div, pos_of_ne-zero}
 use native.Mathlib.Omega.{arith}
 use lib.Dec.{ltb, eqb, lit<}
 use lib.ListN.{length, get_or, drop, length-append, length-map, get_or-eq_default}
-use borrow.Author.Tests.{ltb-true, ltb-false, lt-ltb, le-ltb, leb-true, eqb-true, eqb-false}
+use borrow.Author.Tests.{ltb-true, ltb-false, lt-ltb, le-ltb, leb-true, eqb-false}
+use Rattle.std.specs.Prelude.{Result, Ok, Err}
+use Rattle.refusal.specs.declared.Refusal.{Refusal}
+use Rattle.refusal.specs.declared.Refusal.TheVariants as refusal
 use Rattle.groups.specs.Numbers.{tab, leading_in, Below}
 use Rattle.groups.specs.Layout.{groups_of, side, base_of, digits_at, size_in, Digits}
 use Rattle.groups.specs.Packed.{digits_in}
-use Rattle.groups.specs.Read.{unit_of, range_at, stored_at, read_groups}
+use Rattle.groups.specs.Read.{unit_of, range_at, stored_at}
 use Rattle.groups.specs.Sign.{signed_nought}
 use Rattle.groups.specs.Write.{digits_ok, well_at, well_groups, well_formed}
 use Rattle.groups.proofs.Accept.{both_true, in-range}
 use Rattle.groups.proofs.Marks.{length-in}
-use Rattle.groups.proofs.Opened.{opened, reads, digits-range}
+use Rattle.groups.proofs.Opened.{digits-range}
 use Rattle.groups.proofs.Sizes.{digits-size}
 use Rattle.groups.proofs.Tab.{tab-at, length-tab, all-each}
 use Rattle.groups.proofs.Sign.{formed-of}
 use Rattle.numeral.specs.Read.{strip, minus, unsigned, run, pointed, whole_part, fraction_part, is_text, few_digits}
-use Rattle.numeral.specs.Read.{Numeral, digit_of, digits_in as text_digits, no_numeral, numeral_of, read_unsigned, read_text}
+use Rattle.numeral.specs.Read.{Numeral, digit_of, digits_in as text_digits, numeral_of, read_unsigned, read_text}
 use Rattle.numeral.proofs.Limits.{read-within}
-use Rattle.kept.specs.Kept.{without}
-use Rattle.kept.specs.declared.Kept.{Kept}
-use Rattle.decimal.specs.Read.{negative, nought, decimal_of, or_nought, finished, from_groups, read_bin, read_packed}
+use Rattle.kept.specs.Kept.{Kept, without}
+use Rattle.decimal.specs.Read.{negative, nought, decimal_of, or_nought, finished, read_bin, read_packed}
 use Rattle.decimal.specs.Write.{is_well}
-use Rattle.decimal.specs.Text.{of_digits, of_numeral, parse_text}
+use Rattle.decimal.specs.Text.{of_digits, of_numeral, from_numeral, parse_text}
 use Rattle.decimal.specs.declared.Decimal.{Decimal}
 use Rattle.order.proofs.Lex.{pow-pos-of}
 use Rattle.decimal_laws.proofs.Bytes.{digits-below}
-use Rattle.decimal_laws.proofs.Kept.{leading_le, whole-groups, answered}
+use Rattle.decimal_laws.proofs.Kept.{leading_le, whole-groups}
 use Rattle.decimal_laws.proofs.Weights.{rounded}
-use Rattle.decimal_laws.proofs.RoundTrip.{packed-base, well-of, well-read, form_at, groups_at}
+use Rattle.decimal_laws.proofs.RoundTrip.{packed-base, well-of, well-read, form_at, groups_at, was_read}
 
 -- ---- a group of 0 is well formed at every place, and so is nought
 pub zero-well : (i f k : ℕ) → well_at i f k 0 ≡ true
@@ -113,10 +115,6 @@ module _ (P : Decimal → Type 0) (none : P nought) where
       go true e = decimal-holds i f neg gs whole
       go false e = decimal-holds (left i z) f neg (later z gs) (less z (pos_of_ne-zero (eqb-false z 0 e)) (leading_le (groups_of i) gs))
 
-  answer-holds : (t : Bool) (d : Decimal) (n : ℕ) → (t ≡ true → P d) → P (answered t d n).decimal
-  answer-holds true d n h = h refl
-  answer-holds false d n h = none
-
 -- ---- groups that were read
 module _ (i f : ℕ) (gs : List ℕ) (n : length gs ≡ 9) where
   finished-nine : (keep neg : Bool) → length (finished keep i f neg gs).groups ≡ 9
@@ -144,44 +142,32 @@ module _ (i f : ℕ) (gs : List ℕ) (n : length gs ≡ 9) where
         finished-holds (λ d. is_well d ≡ true) nought-formed keep i f neg gs (λ a. formed-of neg i f gs (well-of i f gs a l m w))
         (λ z a b c. formed-of neg (left i z) f (later z gs) (later-formed z a b c))
 
--- what is read of bytes is refused, or made of the groups in them
-module _ (bs : List ℕ) (p s : ℕ) (keep : Bool) where
-  read-holds : (P : Decimal → Type 0) → P nought
-      → ((read_groups (form_at bs) bs p s).refusal ≡ 0 → P (finished keep (p - s) s (negative bs) (groups_at bs p s))) → P (read_bin bs p s keep).decimal
-  unfolding read_bin from_groups
-  read-holds P none h =
-      let g = read_groups (form_at bs) bs p s in
-      answer-holds P none (eqb g.refusal 0) (finished keep (p - s) s (negative bs) g.groups) g.refusal
-      (λ q. let e = eqb-true _ _ q in let o = opened (form_at bs) bs p s e in rw (reads (form_at bs) bs p s o.0 o.1.0 o.1.1) (h e))
+module _ (bs : List ℕ) (p s : ℕ) (keep : Bool) (d : Decimal) (e : read_bin bs p s keep ≡ Ok d) where
+  pub read-nine : length d.groups ≡ 9
+  read-nine = let w = was_read bs p s keep d e in rw w.is (finished-nine (p - s) s (groups_at bs p s) (length-tab 9 _) keep (negative bs))
 
-  pub read-nine : length (read_bin bs p s keep).decimal.groups ≡ 9
-  read-nine = read-holds (λ d. length d.groups ≡ 9) refl (λ e. finished-nine (p - s) s (groups_at bs p s) (length-tab 9 _) keep (negative bs))
+  pub read-formed : Below 256 bs → is_well d ≡ true
+  read-formed h =
+      let F = form_at bs in
+      let ds = digits_in F bs in
+      let w = was_read bs p s keep d e in
+      let r = in-range p s w.range in
+      let b : Below (base_of F) ds = rw (packed-base (negative bs)) (digits-below (negative bs) bs h) in
+      let m : size_in F (p - s) s ≤ length ds = rw (length-in F bs) w.fits in
+      rw w.is
+      (finished-formed (p - s) s (groups_at bs p s) (length-tab 9 _) (omega arith) r.1.0 (well-read F (p - s) s ds b m (all-each (range_at F (p - s) s ds) 9 w.each)) keep (negative bs))
 
-  pub read-formed : Below 256 bs → is_well (read_bin bs p s keep).decimal ≡ true
-  read-formed h = read-holds (λ d. is_well d ≡ true) nought-formed well
-    where
-      well : (read_groups (form_at bs) bs p s).refusal ≡ 0 → is_well (finished keep (p - s) s (negative bs) (groups_at bs p s)) ≡ true
-      well e =
-          let F = form_at bs in
-          let ds = digits_in F bs in
-          let o = opened F bs p s e in
-          let r = in-range p s o.0 in
-          let b : Below (base_of F) ds = rw (packed-base (negative bs)) (digits-below (negative bs) bs h) in
-          let m : size_in F (p - s) s ≤ length ds = rw (length-in F bs) o.1.0 in
-          finished-formed (p - s) s (groups_at bs p s) (length-tab 9 _) (omega arith) r.1.0
-          (well-read F (p - s) s ds b m (all-each (range_at F (p - s) s ds) 9 o.1.1)) keep (negative bs)
-
-pub packed-nine : (bs : List ℕ) (keep : Bool) → length (read_packed bs keep).decimal.groups ≡ 9
+pub packed-nine : (bs : List ℕ) (keep : Bool) (d : Decimal) → read_packed bs keep ≡ Ok d → length d.groups ≡ 9
 unfolding read_packed
-packed-nine [] keep = refl
-packed-nine (p ∷ []) keep = refl
-packed-nine (p ∷ s ∷ bs) keep = read-nine bs p s keep
+packed-nine [] keep d e = absurd (cc)
+packed-nine (p ∷ []) keep d e = absurd (cc)
+packed-nine (p ∷ s ∷ bs) keep d e = read-nine bs p s keep d e
 
-pub packed-formed : (bs : List ℕ) (keep : Bool) → Below 256 bs → is_well (read_packed bs keep).decimal ≡ true
+pub packed-formed : (bs : List ℕ) (keep : Bool) (d : Decimal) → read_packed bs keep ≡ Ok d → Below 256 bs → is_well d ≡ true
 unfolding read_packed
-packed-formed [] keep h = nought-formed
-packed-formed (p ∷ []) keep h = nought-formed
-packed-formed (p ∷ s ∷ bs) keep h = read-formed bs p s keep (λ k. h (suc (suc k)))
+packed-formed [] keep d e h = absurd (cc)
+packed-formed (p ∷ []) keep d e h = absurd (cc)
+packed-formed (p ∷ s ∷ bs) keep d e h = read-formed bs p s keep d e (λ k. h (suc (suc k)))
 
 -- ---- a numeral that was read has a digit, and as many as it counts
 abbrev pub Counts : Numeral → Type 0
@@ -193,42 +179,41 @@ of-text neg xs e =
     let n = length-map (whole_part xs ++ fraction_part xs) digit_of ∙ length-append (whole_part xs) (fraction_part xs) in
     (leb-true 1 _ (both_true (pointed (drop (run xs) xs)) _ e).1, omega arith)
 
-unsigned-counts : (neg : Bool) (xs : List ℕ) → (read_unsigned neg xs).refusal ≡ 0 → Counts (read_unsigned neg xs)
+unsigned-counts : (neg : Bool) (xs : List ℕ) (t : Numeral) → read_unsigned neg xs ≡ Ok t → Counts t
 unfolding read_unsigned
-unsigned-counts neg xs e = go (is_text xs) (few_digits (length (whole_part xs)) (length (fraction_part xs))) (of-text neg xs) e
+unsigned-counts neg xs t e = go (is_text xs) (few_digits (length (whole_part xs)) (length (fraction_part xs))) (of-text neg xs) e
   where
-    go : (t u : Bool) → (t ≡ true → Counts (numeral_of neg xs)) → (cond {A = Numeral} t (cond u (numeral_of neg xs) (no_numeral 24)) (no_numeral 23)).refusal ≡ 0
-        → Counts (cond {A = Numeral} t (cond u (numeral_of neg xs) (no_numeral 24)) (no_numeral 23))
-    go true true h e = h refl
-    go true false h e = absurd (omega arith)
-    go false u h e = absurd (omega arith)
+    go : (b u : Bool) → (b ≡ true → Counts (numeral_of neg xs)) → cond b (cond u (Ok (numeral_of neg xs)) (Err refusal.Digits)) (Err refusal.Text) ≡ Ok t → Counts t
+    go true true h e = let q : numeral_of neg xs ≡ t = cc in rw (← q) (h refl)
+    go true false h e = absurd (cc)
+    go false u h e = absurd (cc)
 
-pub read-counts : (bs : List ℕ) → (read_text bs).refusal ≡ 0 → Counts (read_text bs)
+pub read-counts : (bs : List ℕ) (t : Numeral) → read_text bs ≡ Ok t → Counts t
 unfolding read_text
-read-counts bs e = unsigned-counts (minus (strip bs)) (unsigned (strip bs)) e
+read-counts bs t e = unsigned-counts (minus (strip bs)) (unsigned (strip bs)) t e
 
 -- ---- text
-text-holds : (P : Decimal → Type 0) → P nought → (bs : List ℕ) → ((read_text bs).refusal ≡ 0 → P (of_numeral (read_text bs))) → P (parse_text bs).decimal
+-- A text's decimal is that of the numeral in it.
+pub was_text : (bs : List ℕ) (d : Decimal) → parse_text bs ≡ Ok d → (t : Numeral) × (read_text bs ≡ Ok t) × (d ≡ of_numeral t)
 unfolding parse_text
-text-holds P none bs h =
-    answer-holds P none (eqb (read_text bs).refusal 0) (of_numeral (read_text bs)) (read_text bs).refusal (λ q. h (eqb-true _ _ q))
-
-pub parse-nine : (bs : List ℕ) → length (parse_text bs).decimal.groups ≡ 9
-unfolding of_digits decimal_of
-parse-nine bs = text-holds (λ d. length d.groups ≡ 9) refl bs (λ e. length-tab 9 _)
-
-pub parse-formed : (bs : List ℕ) → is_well (parse_text bs).decimal ≡ true
-unfolding of_digits decimal_of
-parse-formed bs = text-holds (λ d. is_well d ≡ true) nought-formed bs well
+was_text bs d e = go (read_text bs) e
   where
-    well : (read_text bs).refusal ≡ 0 → is_well (of_numeral (read_text bs)) ≡ true
-    well e =
-        let i = (read_text bs).intg in
-        let f = (read_text bs).frac in
-        let ds = (read_text bs).digits in
-        let c = read-counts bs e in
-        let r = read-within bs e in
-        let m : size_in Digits i f ≤ length ds = rw (digits-size i f r.0 r.1.0) c.1 in
-        let gs = tab 9 (stored_at Digits i f ds) in
-        formed-of (read_text bs).negative i f gs
-        (well-of i f gs c.0 r.1.0 r.0 (well-read Digits i f ds r.1.1 m (digits-range i f ds r.1.1 m)))
+    go : (r : Result Numeral Refusal) → from_numeral r ≡ Ok d → (t : Numeral) × (r ≡ Ok t) × (d ≡ of_numeral t)
+    go (Ok t) h = (t, refl, cc)
+    go (Err q) h = absurd (cc)
+
+pub parse-nine : (bs : List ℕ) (d : Decimal) → parse_text bs ≡ Ok d → length d.groups ≡ 9
+unfolding of_digits decimal_of
+parse-nine bs d e = let w = was_text bs d e in rw w.2 (length-tab 9 _)
+
+pub parse-formed : (bs : List ℕ) (d : Decimal) → parse_text bs ≡ Ok d → is_well d ≡ true
+unfolding of_digits decimal_of
+parse-formed bs d e =
+    let w = was_text bs d e in
+    let t = w.0 in
+    let c = read-counts bs t w.1 in
+    let r = read-within bs t w.1 in
+    let m : size_in Digits t.intg t.frac ≤ length t.digits = rw (digits-size t.intg t.frac r.0 r.1.0) c.1 in
+    let gs = tab 9 (stored_at Digits t.intg t.frac t.digits) in
+    rw w.2
+    (formed-of t.negative t.intg t.frac gs (well-of t.intg t.frac gs c.0 r.1.0 r.0 (well-read Digits t.intg t.frac t.digits r.1.1 m (digits-range t.intg t.frac t.digits r.1.1 m))))

@@ -12,6 +12,9 @@ use lib.IntN.{pos}
 use lib.ListN.{length, get_or, drop, replicate, length-append, length-drop, length-replicate}
 use lib.Seq.{get_or-drop}
 use borrow.Author.Tests.{le-ltb, eqb-true}
+use Rattle.std.specs.Prelude.{Result, Ok, Err}
+use Rattle.std.specs.Result.{result_err}
+use Rattle.refusal.specs.declared.Refusal.{Refusal}
 use Rattle.groups.specs.Numbers.{number, tab, leading_in}
 use Rattle.groups.specs.Layout.{width, groups_of, side, form_of, wide_of, digits_at, Form, Plain, Inverted, Digits}
 use Rattle.groups.specs.Packed.{digits_in}
@@ -19,14 +22,13 @@ use Rattle.groups.specs.Read.{group_at, stored_at, read_groups}
 use Rattle.groups.specs.Sign.{is_nought, below_zero}
 use Rattle.groups.proofs.Accept.{in-range}
 use Rattle.groups.proofs.Tab.{tab-at, length-tab, filled}
-use Rattle.groups.proofs.Opened.{opened, reads}
-use Rattle.kept.specs.Kept.{without}
-use Rattle.kept.specs.declared.Kept.{Kept}
-use Rattle.decimal.specs.Read.{negative, nought, decimal_of, or_nought, finished, refused, accepted, from_groups, read_bin, read_packed}
+use Rattle.groups.proofs.Opened.{opened}
+use Rattle.kept.specs.Kept.{Kept, without}
+use Rattle.decimal.specs.Read.{negative, nought, decimal_of, or_nought, finished, from_groups, read_bin, read_packed}
 use Rattle.order.specs.Value.{magnitude, signed}
 use Rattle.decimal.specs.Value.{value}
 use Rattle.decimal.specs.declared.Decimal.{Decimal}
-use Rattle.decimal.specs.declared.Answer.{Answer}
+use Rattle.decimal_laws.specs.Valued.{valued}
 use Rattle.order.proofs.Lex.{zeros-before, zeros-after, at_after, all-zero}
 use Rattle.order.proofs.Values.{nought-number}
 
@@ -175,53 +177,38 @@ past-stored F i ds k h = rw (past-digits i k h, none-wide F, zero-mul)
 read-ends : (F : Form) (i f : ℕ) (ds : List ℕ) → Ends i f (tab 9 (stored_at F i f ds))
 read-ends F i f ds q k h m = tab-at 9 (stored_at F i f ds) k m ∙ rw q (past-stored F i ds k h)
 
-same_read : (F : Form) (bs : List ℕ) (p s : ℕ) (neg : Bool) → (read_groups F bs p s).refusal ≡ 0
-    → value (finished false (p - s) s neg (read_groups F bs p s).groups) ≡ value (finished true (p - s) s neg (read_groups F bs p s).groups)
-same_read F bs p s neg e =
-    let o = opened F bs p s e in
+same_read : (F : Form) (bs : List ℕ) (p s : ℕ) (neg : Bool) (gs : List ℕ) → read_groups F bs p s ≡ Ok gs
+    → value (finished false (p - s) s neg gs) ≡ value (finished true (p - s) s neg gs)
+same_read F bs p s neg gs e =
+    let o = opened F bs p s gs e in
     let r = in-range p s o.0 in
     let ds = digits_in F bs in
-    rw (reads F bs p s o.0 o.1.0 o.1.1)
-    (same-finished (p - s) s neg (tab 9 (stored_at F (p - s) s ds)) (length-tab 9 _) (omega arith) (read-ends F (p - s) s ds))
-
--- ---- an answer, refused or not
-abbrev pub answered : Bool → Decimal → ℕ → Answer
-answered t d n = cond t (accepted d) (refused n)
-
-answer-refusal : (t : Bool) (a b : Decimal) (n : ℕ) → (answered t a n).refusal ≡ (answered t b n).refusal
-answer-refusal true a b n = refl
-answer-refusal false a b n = refl
-
-answer-value : (t : Bool) (a b : Decimal) (n : ℕ) → (t ≡ true → value a ≡ value b) → value (answered t a n).decimal ≡ value (answered t b n).decimal
-answer-value true a b n h = h refl
-answer-value false a b n h = refl
+    rw o.1.1.1 (same-finished (p - s) s neg (tab 9 (stored_at F (p - s) s ds)) (length-tab 9 _) (omega arith) (read-ends F (p - s) s ds))
 
 -- ---- the laws
--- digit bytes of a known precision and scale: the same refusal, and the same value
-pub same-refusal : (bs : List ℕ) (p s : ℕ) → (read_bin bs p s false).refusal ≡ (read_bin bs p s true).refusal
+-- digit bytes of a known precision and scale: the same refusal, or values that are the same
+pub same-value : (bs : List ℕ) (p s : ℕ) → valued (read_bin bs p s false) ≡ valued (read_bin bs p s true)
 unfolding read_bin from_groups
-same-refusal bs p s = answer-refusal (eqb (read_groups (form_of (negative bs)) bs p s).refusal 0) _ _ _
+same-value bs p s = go (read_groups F bs p s) refl
+  where
+    F : Form
+    F = form_of (negative bs)
 
-pub same-value : (bs : List ℕ) (p s : ℕ) → value (read_bin bs p s false).decimal ≡ value (read_bin bs p s true).decimal
-unfolding read_bin from_groups
-same-value bs p s =
-    let F = form_of (negative bs) in
-    answer-value (eqb (read_groups F bs p s).refusal 0) _ _ _ (λ q. same_read F bs p s (negative bs) (eqb-true _ _ q))
+    go : (g : Result (List ℕ) Refusal) → read_groups F bs p s ≡ g
+        → valued (from_groups g (p - s) s (negative bs) false) ≡ valued (from_groups g (p - s) s (negative bs) true)
+    go (Ok gs) e = ap Ok (same_read F bs p s (negative bs) gs e)
+    go (Err r) e = refl
 
--- packed
-pub packed-refusal : (bs : List ℕ) → (read_packed bs false).refusal ≡ (read_packed bs true).refusal
+refused-as : (a : Result Decimal Refusal) → result_err (valued a) ≡ result_err a
+refused-as (Ok d) = refl
+refused-as (Err r) = refl
+
+pub same-refusal : (bs : List ℕ) (p s : ℕ) → result_err (read_bin bs p s false) ≡ result_err (read_bin bs p s true)
+same-refusal bs p s = sym (refused-as (read_bin bs p s false)) ∙ ap result_err (same-value bs p s) ∙ refused-as (read_bin bs p s true)
+
+-- Without kept precision a packed decimal is refused as with it, or its value is that with it.
+pub kept_or_not : (bs : List ℕ) → valued (read_packed bs false) ≡ valued (read_packed bs true)
 unfolding read_packed
-packed-refusal [] = refl
-packed-refusal (p ∷ []) = refl
-packed-refusal (p ∷ s ∷ bs) = same-refusal bs p s
-
-pub packed-value : (bs : List ℕ) → value (read_packed bs false).decimal ≡ value (read_packed bs true).decimal
-unfolding read_packed
-packed-value [] = refl
-packed-value (p ∷ []) = refl
-packed-value (p ∷ s ∷ bs) = same-value bs p s
-
--- Without kept precision a packed decimal is refused as with it, and its value is that with it.
-pub kept_or_not : (bs : List ℕ)
-    → ((read_packed bs false).refusal ≡ (read_packed bs true).refusal) × (value (read_packed bs false).decimal ≡ value (read_packed bs true).decimal)
-kept_or_not bs = (packed-refusal bs, packed-value bs)
+kept_or_not [] = refl
+kept_or_not (p ∷ []) = refl
+kept_or_not (p ∷ s ∷ bs) = same-value bs p s

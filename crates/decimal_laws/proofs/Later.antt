@@ -10,6 +10,8 @@ use native.Mathlib.Omega.{arith}
 use lib.Dec.{leb, ltb}
 use lib.ListN.{length, length-append}
 use borrow.Author.Tests.{le-leb}
+use Rattle.std.specs.Prelude.{Ok, Err}
+use Rattle.refusal.specs.declared.Refusal.TheVariants as refusal
 use Rattle.groups.specs.Numbers.{number, tab, all, leading_in}
 use Rattle.groups.specs.Layout.{width, groups_of, side, form_of, digits_at, offset, size_in, size, Form}
 use Rattle.groups.specs.Packed.{flip_first, invert, digits_in}
@@ -19,7 +21,7 @@ use Rattle.groups.proofs.Marks.{length-in}
 use Rattle.groups.proofs.Sizes.{packed-size, size-pos}
 use Rattle.groups.proofs.Tab.{tab-at, length-tab, filled}
 use Rattle.kept.specs.Kept.{without}
-use Rattle.decimal.specs.Read.{negative, nought, or_nought, finished, refused, accepted, from_groups, read_bin, read_packed}
+use Rattle.decimal.specs.Read.{negative, nought, or_nought, finished, from_groups, read_bin, read_packed}
 use Rattle.decimal_laws.proofs.Bytes.{after}
 use Rattle.decimal_laws.proofs.Places.{range_front, stored-front}
 
@@ -27,7 +29,7 @@ use Rattle.decimal_laws.proofs.Places.{range_front, stored-front}
 leb-zero : (n : ℕ) → leb 0 n ≡ true
 leb-zero n = le-leb 0 n (omega arith)
 
-no-digits : (neg keep : Bool) (bs : List ℕ) → from_groups (read_groups (form_of neg) bs 0 0) 0 0 neg keep ≡ accepted nought
+no-digits : (neg keep : Bool) (bs : List ℕ) → from_groups (read_groups (form_of neg) bs 0 0) 0 0 neg keep ≡ Ok nought
 unfolding read_groups groups_in in_range range_at stored_at group_at unit_of digits_at side groups_of width offset number tab from_groups finished without or_nought leading_in
 no-digits true true bs = simp (leb-zero (length bs))
 no-digits true false bs = simp (leb-zero (length bs))
@@ -35,7 +37,7 @@ no-digits false true bs = simp (leb-zero (length bs))
 no-digits false false bs = simp (leb-zero (length bs))
 
 -- 0 with 0 is positive 0, whatever the bytes
-pub nothing_read : (bs : List ℕ) (keep : Bool) → read_bin bs 0 0 keep ≡ accepted nought
+pub nothing_read : (bs : List ℕ) (keep : Bool) → read_bin bs 0 0 keep ≡ Ok nought
 unfolding read_bin
 nothing_read bs keep = no-digits (negative bs) keep bs
 
@@ -76,7 +78,7 @@ groups-later neg b bs rest p s l =
     )
 
 -- ---- the laws
-out_of_range : (bs : List ℕ) (p s : ℕ) (keep : Bool) → in_range p s ≡ false → read_bin bs p s keep ≡ refused 20
+out_of_range : (bs : List ℕ) (p s : ℕ) (keep : Bool) → in_range p s ≡ false → read_bin bs p s keep ≡ Err refusal.Range
 unfolding read_bin read_groups from_groups
 out_of_range bs p s keep e = simp e
 

@@ -12,6 +12,8 @@ use lib.Signed.{lt_z}
 use lib.ListN.{length, get_or, take, drop, replicate, length-replicate, get_or-replicate, take-append-drop}
 use lib.Seq.{ext_get_or, length-take-le}
 use borrow.Author.Tests.{eqb-true, le-ltb}
+use Rattle.std.specs.Prelude.{Result, Ok, Err}
+use Rattle.refusal.specs.declared.Refusal.{Refusal}
 use Rattle.groups.specs.Numbers.{both, all, tab, leading_in, Below}
 use Rattle.groups.specs.Layout.{groups_of, form_of, size}
 use Rattle.groups.specs.Read.{in_range, zeros}
@@ -21,32 +23,31 @@ use Rattle.groups.proofs.Accept.{both_true, in-range}
 use Rattle.groups.proofs.Sign.{nought-of, formed-sign, formed-zero}
 use Rattle.groups.proofs.Sizes.{packed-size, size-pos}
 use Rattle.groups.proofs.Tab.{all-each, tab-at, zeros-at}
-use Rattle.kept.specs.Kept.{without}
-use Rattle.kept.specs.declared.Kept.{Kept}
+use Rattle.kept.specs.Kept.{Kept, without}
 use Rattle.order.specs.Value.{magnitude, signed}
 use Rattle.order.proofs.Values.{below-magnitude}
-use Rattle.decimal.specs.Read.{negative, decimal_of, or_nought, finished, accepted, from_groups, read_bin, read_packed}
+use Rattle.decimal.specs.Read.{negative, decimal_of, or_nought, finished, from_groups, read_bin, read_packed}
 use Rattle.decimal.specs.Write.{is_well}
 use Rattle.decimal.specs.Value.{value}
 use Rattle.decimal.specs.Text.{parse_text}
 use Rattle.decimal.specs.declared.Decimal.{Decimal}
-use Rattle.decimal.specs.declared.Answer.{Answer}
+use Rattle.decimal_laws.specs.Valued.{valued}
 use Rattle.decimal_laws.specs.Zero.{is_negative_zero, positive_zero}
 use Rattle.decimal_laws.proofs.Formed.{zero-well, read-nine, read-formed, packed-formed, parse-formed}
-use Rattle.decimal_laws.proofs.Kept.{same-value, same-refusal}
+use Rattle.decimal_laws.proofs.Kept.{same-value}
 use Rattle.decimal_laws.proofs.Later.{later-bytes}
-use Rattle.decimal_laws.proofs.RoundTrip.{kept, well-of, groups_at, bytes-are, sign-back, groups-back}
+use Rattle.decimal_laws.proofs.RoundTrip.{was_read, kept, well-of, groups_at, bytes-are, sign-back, groups-back}
 use Rattle.decimal_laws.proofs.Zero.{zero_bytes, zero-written, negative-zero}
 
 -- ---- a zero that is answered
-pub read-zero : (bs : List ℕ) (p s : ℕ) (keep : Bool) → Below 256 bs → is_nought (read_bin bs p s keep).decimal.groups ≡ true → (read_bin bs p s keep).decimal.sign ≡ false
-read-zero bs p s keep h z = formed-zero _ _ _ _ (read-formed bs p s keep h) z
+pub read-zero : (bs : List ℕ) (p s : ℕ) (keep : Bool) (d : Decimal) → read_bin bs p s keep ≡ Ok d → Below 256 bs → is_nought d.groups ≡ true → d.sign ≡ false
+read-zero bs p s keep d e h z = formed-zero _ _ _ _ (read-formed bs p s keep d e h) z
 
-pub packed_zero : (bs : List ℕ) (keep : Bool) → Below 256 bs → is_nought (read_packed bs keep).decimal.groups ≡ true → (read_packed bs keep).decimal.sign ≡ false
-packed_zero bs keep h z = formed-zero _ _ _ _ (packed-formed bs keep h) z
+pub packed_zero : (bs : List ℕ) (keep : Bool) (d : Decimal) → read_packed bs keep ≡ Ok d → Below 256 bs → is_nought d.groups ≡ true → d.sign ≡ false
+packed_zero bs keep d e h z = formed-zero _ _ _ _ (packed-formed bs keep d e h) z
 
-pub parse-zero : (bs : List ℕ) → is_nought (parse_text bs).decimal.groups ≡ true → (parse_text bs).decimal.sign ≡ false
-parse-zero bs z = formed-zero _ _ _ _ (parse-formed bs) z
+pub parse-zero : (bs : List ℕ) (d : Decimal) → parse_text bs ≡ Ok d → is_nought d.groups ≡ true → d.sign ≡ false
+parse-zero bs d e z = formed-zero _ _ _ _ (parse-formed bs d e) z
 
 -- ---- the sign is that of the value
 sign-is : (neg : Bool) (m : ℕ) → (neg ≡ true → 0 < m) → neg ≡ lt_z (signed neg m) (pos 0)
@@ -62,29 +63,34 @@ value-sign d n w =
     (λ s. below-magnitude (groups_of d.intg) d.groups n (rw s at (formed-sign d.sign d.intg d.frac d.groups w)))
 
 -- With kept precision or without the sign is the same.
-pub same_sign : (bs : List ℕ) (p s : ℕ) → Below 256 bs → (read_bin bs p s false).decimal.sign ≡ (read_bin bs p s true).decimal.sign
-same_sign bs p s h =
-    value-sign (read_bin bs p s false).decimal (read-nine bs p s false) (read-formed bs p s false h)
-    ∙ ap (λ (v : ℤ). lt_z v (pos 0)) (same-value bs p s)
-    ∙ sym (value-sign (read_bin bs p s true).decimal (read-nine bs p s true) (read-formed bs p s true h))
+pub same_sign : (bs : List ℕ) (p s : ℕ) (d e : Decimal) → Below 256 bs → read_bin bs p s false ≡ Ok d → read_bin bs p s true ≡ Ok e → d.sign ≡ e.sign
+same_sign bs p s d e h a b =
+    let v : value d ≡ value e = cc (same-value bs p s, ap valued a, ap valued b) in
+    value-sign d (read-nine bs p s false d a) (read-formed bs p s false d a h)
+    ∙ ap (λ (v : ℤ). lt_z v (pos 0)) v
+    ∙ sym (value-sign e (read-nine bs p s true e b) (read-formed bs p s true e b h))
 
 but-zero : (neg t : Bool) → both neg (not t) ≡ both neg (not (both neg t))
 but-zero true t = refl
 but-zero false t = refl
 
-kept-sign : (bs : List ℕ) (p s : ℕ) → Below 256 bs → 1 ≤ p → (read_bin bs p s true).refusal ≡ 0
-    → (read_bin bs p s true).decimal.sign ≡ both (negative bs) (not (is_negative_zero (take (size (p - s) s) bs)))
+kept-sign : (bs : List ℕ) (p s : ℕ) (d : Decimal) → Below 256 bs → 1 ≤ p → read_bin bs p s true ≡ Ok d → d.sign ≡ both (negative bs) (not (is_negative_zero (take (size (p - s) s) bs)))
 unfolding decimal_of below_zero
-kept-sign bs p s h l e =
-    let g = bytes-are bs p s h l e in
+kept-sign bs p s d h l e =
+    let w = was_read bs p s true d e in
+    let g = bytes-are bs p s true d h l w in
     let z = sym (ap is_negative_zero g.1) ∙ negative-zero (p - s) s (groups_at bs p s) g.0 (negative bs) in
-    ap (λ (a : Answer). a.decimal.sign) (kept bs p s l e) ∙ but-zero (negative bs) (is_nought (groups_at bs p s)) ∙ rw z
+    ap (λ (a : Decimal). a.sign) (kept bs p s d l w) ∙ but-zero (negative bs) (is_nought (groups_at bs p s)) ∙ rw z
 
 -- What is read is negative where its bytes say so, except for a negative zero; with kept precision or without.
-pub read-sign : (bs : List ℕ) (p s : ℕ) (keep : Bool) → Below 256 bs → 1 ≤ p → (read_bin bs p s keep).refusal ≡ 0
-    → (read_bin bs p s keep).decimal.sign ≡ both (negative bs) (not (is_negative_zero (take (size (p - s) s) bs)))
-read-sign bs p s true h l e = kept-sign bs p s h l e
-read-sign bs p s false h l e = same_sign bs p s h ∙ kept-sign bs p s h l (sym (same-refusal bs p s) ∙ e)
+pub read-sign : (bs : List ℕ) (p s : ℕ) (keep : Bool) (d : Decimal) → Below 256 bs → 1 ≤ p → read_bin bs p s keep ≡ Ok d
+    → d.sign ≡ both (negative bs) (not (is_negative_zero (take (size (p - s) s) bs)))
+read-sign bs p s true d h l e = kept-sign bs p s d h l e
+read-sign bs p s false d h l e = go (read_bin bs p s true) refl
+  where
+    go : (r : Result Decimal Refusal) → read_bin bs p s true ≡ r → d.sign ≡ both (negative bs) (not (is_negative_zero (take (size (p - s) s) bs)))
+    go (Ok k) q = same_sign bs p s d k h e q ∙ kept-sign bs p s k h l q
+    go (Err n) q = absurd (cc (same-value bs p s, ap valued e, ap valued q))
 
 -- ---- of zero groups the sign does not matter
 of-zeros : (i f : ℕ) (gs : List ℕ) → is_nought gs ≡ true → or_nought i f true gs ≡ or_nought i f false gs
@@ -139,8 +145,8 @@ module _ (p s : ℕ) (r : in_range p s ≡ true) (l : 1 ≤ p) where
   zeros-are : (neg : Bool) → written (form_of neg) (p - s) s zeros ≡ zero_bytes neg (size (p - s) s - 1)
   zeros-are neg = rw (packed-size neg (p - s) s) at (zero-written (p - s) s zeros zeros-well neg zeros-nought)
 
-  zeros-read : (neg keep : Bool) → read_bin (written (form_of neg) (p - s) s zeros) p s keep ≡ from_groups (record { refusal = 0; groups = zeros }) (p - s) s neg keep
-  unfolding read_bin
+  zeros-read : (neg keep : Bool) → read_bin (written (form_of neg) (p - s) s zeros) p s keep ≡ Ok (finished keep (p - s) s neg zeros)
+  unfolding read_bin from_groups
   zeros-read neg keep =
       let h = in-range p s r in
       let q : p - s + s ≡ p = omega arith in
@@ -149,8 +155,7 @@ module _ (p s : ℕ) (r : in_range p s ≡ true) (l : 1 ≤ p) where
       rw (a, b)
 
   same-zero : (keep : Bool) → read_bin (written (form_of true) (p - s) s zeros) p s keep ≡ read_bin (written (form_of false) (p - s) s zeros) p s keep
-  unfolding from_groups
-  same-zero keep = zeros-read true keep ∙ ap accepted (same-finished keep (p - s) s) ∙ sym (zeros-read false keep)
+  same-zero keep = zeros-read true keep ∙ ap Ok (same-finished keep (p - s) s) ∙ sym (zeros-read false keep)
 
   -- A negative zero at the front of the bytes is read as the positive zero.
   pub either-zero : (bs : List ℕ) (keep : Bool) → size (p - s) s ≤ length bs → is_negative_zero (take (size (p - s) s) bs) ≡ true

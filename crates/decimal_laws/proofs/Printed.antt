@@ -11,6 +11,7 @@ use lib.Dec.{eqb}
 use lib.ListN.{length, take, drop, length-append, length-drop, take-append-drop}
 use lib.Seq.{take_all, length-take-le}
 use borrow.Author.Tests.{eq-eqb, ne_eqb}
+use Rattle.std.specs.Prelude.{Ok}
 use Rattle.groups.specs.Numbers.{number, tab, Below}
 use Rattle.groups.specs.Layout.{size_in, Digits}
 use Rattle.groups.specs.Read.{stored_at}
@@ -21,17 +22,16 @@ use Rattle.groups.proofs.Tab.{tab-at, length-tab, filled}
 use Rattle.groups.proofs.Opened.{below-drop}
 use Rattle.groups.proofs.Sizes.{digits-size}
 use Rattle.groups.proofs.Store.{length_to, to_below}
-use Rattle.numeral.specs.Read.{Numeral, read_text}
+use Rattle.numeral.specs.Read.{read_text}
 use Rattle.printing.specs.Print.{show, sign_text, whole_digits, fraction_text}
-use Rattle.decimal.specs.Read.{decimal_of, accepted}
+use Rattle.decimal.specs.Read.{decimal_of}
 use Rattle.decimal.specs.Write.{is_well}
 use Rattle.order.specs.Value.{signed}
 use Rattle.decimal.specs.Value.{value}
-use Rattle.decimal.specs.Text.{of_digits, of_numeral, parse_text, digits_of, printed}
+use Rattle.decimal.specs.Text.{of_digits, from_numeral, parse_text, digits_of, printed}
 use Rattle.decimal.specs.declared.Decimal.{Decimal}
-use Rattle.decimal.specs.declared.Answer.{Answer}
-use Rattle.decimal.proofs.Texts.{text-read}
 use Rattle.decimal_laws.specs.Same.{Same}
+use Rattle.decimal_laws.specs.Valued.{valued}
 use Rattle.decimal_laws.proofs.Places.{stored-front, each-well, stored-written}
 use Rattle.decimal_laws.proofs.Kept.{sign-value}
 use Rattle.decimal_laws.proofs.Weights.{row-magnitude}
@@ -111,17 +111,16 @@ module _ (d : Decimal) (w : is_well d ≡ true) where
   back-number = trimmed-number back-trims (fraction_of d) ∙ whole-number d.intg (digits_of d) whole-fits
 
   read_back : read_text (printed d)
-      ≡ record { refusal = 0; negative = d.sign; intg = length (back_of d); frac = d.frac; digits = back_of d ++ fraction_of d }
+      ≡ Ok (record { negative = d.sign; intg = length (back_of d); frac = d.frac; digits = back_of d ++ fraction_of d })
   read_back =
       let b = trimmed-below back-trims (whole_below d.intg (digits_of d) whole-fits digits-below) in
       let c = below-drop 10 d.intg (digits_of d) digits-below in
       let e = fraction-count in
       rw printed-is (rw e at (read-printed d.sign (whole_of d) (fraction_of d) b c back-trims.some (rw e back_fits) (rw e limits.1.1)))
 
-  parsed : parse_text (printed d) ≡ accepted (of_digits d.sign (length (back_of d)) d.frac (back_of d ++ fraction_of d))
-  parsed =
-      text-read (printed d) (ap (λ (t : Numeral). t.refusal) read_back)
-      ∙ ap (λ (t : Numeral). accepted (of_numeral t)) read_back
+  parsed : parse_text (printed d) ≡ Ok (of_digits d.sign (length (back_of d)) d.frac (back_of d ++ fraction_of d))
+  unfolding parse_text
+  parsed = ap from_numeral read_back
 
   back-value : length d.groups ≡ 9 → value (of_digits d.sign (length (back_of d)) d.frac (back_of d ++ fraction_of d)) ≡ value d
   unfolding value of_digits decimal_of
@@ -149,18 +148,18 @@ module _ (d : Decimal) (w : is_well d ≡ true) where
       let n = length-take-le d.intg (digits_of d) whole-fits in
       back_whole s ∙ trimmed-same (whole-trims d.intg (digits_of d) s.integral whole-fits) (s.as_long ∙ sym n)
 
-  same-comes-back : length d.groups ≡ 9 → Same d → parse_text (printed d) ≡ accepted d
+  same-comes-back : length d.groups ≡ 9 → Same d → parse_text (printed d) ≡ Ok d
   unfolding of_digits decimal_of
   same-comes-back n s =
       let l = length-take-le d.intg (digits_of d) whole-fits in
       let g = formed-sign d.sign d.intg d.frac d.groups w in
       parsed ∙ rw (back-digits s, l, take-append-drop d.intg (digits_of d), groups-are n, g)
 
-  back-is-same : parse_text (printed d) ≡ accepted d → Same d
+  back-is-same : parse_text (printed d) ≡ Ok d → Same d
   unfolding of_digits decimal_of
   back-is-same h =
-      let q = sym parsed ∙ h in
-      let i : length (back_of d) ≡ d.intg = ap (λ (a : Answer). a.decimal.intg) q in
+      let q : of_digits d.sign (length (back_of d)) d.frac (back_of d ++ fraction_of d) ≡ d = cc (parsed, h) in
+      let i : length (back_of d) ≡ d.intg = ap (λ (a : Decimal). a.intg) q in
       let m = back-trims.some in
       let t = trimmed-length back-trims in
       let u = whole-size d.intg (digits_of d) whole-fits in
@@ -175,9 +174,8 @@ module _ (d : Decimal) (w : is_well d ≡ true) where
       }
 
 -- ---- the laws
-pub print-parse : (d : Decimal) → length d.groups ≡ 9 → is_well d ≡ true
-    → ((parse_text (printed d)).refusal ≡ 0) × (value (parse_text (printed d)).decimal ≡ value d)
-print-parse d n w = rw (parsed d w) (refl, back-value d w n)
+pub print-parse : (d : Decimal) → length d.groups ≡ 9 → is_well d ≡ true → valued (parse_text (printed d)) ≡ Ok (value d)
+print-parse d n w = ap valued (parsed d w) ∙ ap Ok (back-value d w n)
 
-pub same-record : (d : Decimal) → length d.groups ≡ 9 → is_well d ≡ true → (parse_text (printed d) ≡ accepted d) ↔ Same d
+pub same-record : (d : Decimal) → length d.groups ≡ 9 → is_well d ≡ true → (parse_text (printed d) ≡ Ok d) ↔ Same d
 same-record d n w = (back-is-same d w, same-comes-back d w n)

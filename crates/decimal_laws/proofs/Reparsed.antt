@@ -10,6 +10,7 @@ use lib.Dec.{eqb, lit<}
 use lib.ListN.{length, get_or, take, drop, length-map}
 use lib.Seq.{take_at, drop_at}
 use borrow.Author.Tests.{le-leb, eq-eqb, ne_eqb, eqb-true, eqb-false}
+use Rattle.std.specs.Prelude.{Ok}
 use Rattle.groups.specs.Numbers.{both, Below}
 use Rattle.groups.proofs.Accept.{both_true}
 use Rattle.numeral.specs.Read.{strip, minus, unsigned, is_digit, run, pointed, whole_part, fraction_part, is_text, few_digits}
@@ -141,7 +142,7 @@ module _ (xs ys : List ℕ) (hx : Below 10 xs) (hy : Below 10 ys) where
 
   read-unsigned : (neg : Bool) → 1 ≤ length xs → length xs + length ys ≤ 65 → length ys ≤ 30
       → read_unsigned neg (map show xs ++ tail_of ys)
-      ≡ record { refusal = 0; negative = neg; intg = length xs; frac = length ys; digits = xs ++ ys }
+      ≡ Ok (record { negative = neg; intg = length xs; frac = length ys; digits = xs ++ ys })
   unfolding read_unsigned few_digits
   read-unsigned neg h l m =
       simp (is-text h, whole-text, fraction-text, length-map xs show, length-map ys show, le-leb _ _ l, le-leb _ _ m, digits-text)
@@ -150,7 +151,7 @@ module _ (xs ys : List ℕ) (hx : Below 10 xs) (hy : Below 10 ys) where
 pub read-printed : (neg : Bool) (xs ys : List ℕ) → Below 10 (read_from neg xs) → Below 10 ys → 1 ≤ length (read_from neg xs)
     → length (read_from neg xs) + length ys ≤ 65 → length ys ≤ 30
     → read_text (sign_text neg ++ (map show xs ++ tail_of ys))
-    ≡ record { refusal = 0; negative = neg; intg = length (read_from neg xs); frac = length ys; digits = read_from neg xs ++ ys }
+    ≡ Ok (record { negative = neg; intg = length (read_from neg xs); frac = length ys; digits = read_from neg xs ++ ys })
 unfolding read_text
 read-printed neg xs ys hx hy h l m =
     let zs = read_from neg xs in

@@ -1,3 +1,4 @@
 pub mod Same
 pub mod Zero
 pub mod NoDecimal
+pub mod Valued

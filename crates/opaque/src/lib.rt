@@ -6,6 +6,7 @@ ghost use Rattle.opaque.specs.Handed.{decimal_part, opaque_decimal};
 
 use columns::ColumnType;
 use decimal::Decimal;
+use header::Window;
 use refusal::Refusal;
 use value::{Scalar, Span, Value};
 
@@ -21,15 +22,11 @@ pub fn decimal_part(x: Value) -> Option<Span>
 }
 
 // The decimal in such bytes, with its precision kept or not.
-#[tactic(auto, unfolding(crate::specs::Handed::opaque_decimal))]
+#[tactic(auto, unfolding(crate::specs::Handed::opaque_decimal, header::specs::Headers::place_of))]
 pub fn opaque_decimal(doc: &[u8], part: Span, keep: bool) -> Result<Decimal, Refusal>
     ensures { result ≡ opaque_decimal doc.now part keep }
 {
-    if 16777216 < doc.len() {
-        return Err(Refusal::Document);
-    }
     let start = part.start as usize;
-    let end = start + part.len as usize;
-    let bytes = doc.get(start..end).ok_or(Refusal::Cut)?;
-    Decimal::read_packed(bytes, keep)
+    let bytes = Window::new(doc, start, start + part.len as usize)?;
+    Decimal::read_packed(&doc[bytes.at..bytes.end], keep)
 }

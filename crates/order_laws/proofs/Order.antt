@@ -1,50 +1,55 @@
 -- The statements of specs/Order.antt: an answer of the comparison is that of two integers, or 26, and integers have such an order.
 -- Assumes nothing.
-use mathlib.Core.Path.{◌≡◌, refl, sym, ap, ◌∙◌, subst}
-use mathlib.Core.Bool.{Bool, true, false, cond}
-use lib.Dec.{T, lit<}
-use lib.IntN.{ℤ, neg_ℤ}
+use Rattle.std.proofs.Common.{◌≡◌, refl, sym, ap, ◌∙◌, Bool, true, false, cond}
+use Rattle.std.specs.Prelude.{ℤ, neg_ℤ, Result, Ok, Err}
+use Rattle.std.specs.declared.cmp.Ordering.{Ordering}
+use Rattle.std.specs.declared.cmp.Ordering.TheVariants.{Less, Equal, Greater}
+use Rattle.refusal.specs.declared.Refusal.{Refusal}
+use Rattle.refusal.specs.declared.Refusal.TheVariants as refusal
 use Rattle.groups.specs.Numbers.{both}
 use Rattle.order.specs.Value.{order_z}
-use Rattle.order.specs.declared.Compared.{Compared}
-use Rattle.order.specs.declared.Compared.TheVariants.{Less, Equal, Greater, Refused}
 use Rattle.decimal.specs.Write.{is_well}
 use Rattle.decimal.specs.Text.{printed}
 use Rattle.decimal.specs.Value.{value}
 use Rattle.decimal.specs.declared.Decimal.{Decimal}
 use Rattle.order_laws.specs.Plain.{plain}
-use Rattle.order_laws.specs.Order.{Compares, compared, negated, reversed, is_le}
+use Rattle.order_laws.specs.Order.{Compares, compared, negated, reversed, is_le, ExactlyOne, first, second, third}
 use Rattle.order_laws.specs.Order.{Swaps, Carries, OneHolds, Reverses, EqualPrints, Itself, LessCarries, EqualAlike}
-use Rattle.order_laws.proofs.Integers.{apart, swapped, carried, one_of, signs-changed, equal-same, same-equal}
+use Rattle.order_laws.proofs.Integers.{swapped, carried, signs-changed, equal-same, same-equal}
 use Rattle.order_laws.proofs.Compared.{compares, the-answer}
 use Rattle.order_laws.proofs.Negated.{negated-well, negated-value}
 use Rattle.order_laws.proofs.Equal.{IsDecimal, same-plain, plain_value, prints-text}
 
 -- ---- of values, and of tests that the records passed
-abbrev answered : Bool → Bool → ℤ → ℤ → Compared
-answered t u x y = cond (both t u) (order_z x y) (Refused 26)
+abbrev pub answered : Bool → Bool → ℤ → ℤ → Result Ordering Refusal
+answered t u x y = cond (both t u) (Ok (order_z x y)) (Err refusal.Record)
 
 swapped-all : (t u : Bool) (x y : ℤ) → answered u t y x ≡ reversed (answered t u x y)
-swapped-all true true x y = swapped x y
+swapped-all true true x y = ap Ok (swapped x y)
 swapped-all true false x y = refl
 swapped-all false true x y = refl
 swapped-all false false x y = refl
 
 carried-all : (t u v : Bool) (x y z : ℤ) → is_le (answered t u x y) ≡ true → is_le (answered u v y z) ≡ true → is_le (answered t v x z) ≡ true
 carried-all true true true x y z h k = carried x y z h k
-carried-all true true false x y z h k = absurd (subst T (sym k) tt)
-carried-all true false v x y z h k = absurd (subst T (sym h) tt)
-carried-all false u v x y z h k = absurd (subst T (sym h) tt)
+carried-all true true false x y z h k = absurd (cc)
+carried-all true false v x y z h k = absurd (cc)
+carried-all false u v x y z h k = absurd (cc)
 
 changed-all : (t u : Bool) (x y : ℤ) → answered t u (neg_ℤ x) (neg_ℤ y) ≡ reversed (answered t u x y)
-changed-all true true x y = signs-changed x y
+changed-all true true x y = ap Ok (signs-changed x y)
 changed-all true false x y = refl
 changed-all false u x y = refl
 
-alike_all : (t u v : Bool) (x y z : ℤ) → answered t u x y ≡ Equal → answered t v x z ≡ answered u v y z
-alike_all true true v x y z h = rw (equal-same x y h)
-alike_all true false v x y z h = absurd (apart Equal (Refused 26) (lit< tt) (sym h))
-alike_all false u v x y z h = absurd (apart Equal (Refused 26) (lit< tt) (sym h))
+alike_all : (t u v : Bool) (x y z : ℤ) → answered t u x y ≡ Ok Equal → answered t v x z ≡ answered u v y z
+alike_all true true v x y z h = let e : order_z x y ≡ Equal = cc in rw (equal-same x y e)
+alike_all true false v x y z h = absurd (cc)
+alike_all false u v x y z h = absurd (cc)
+
+one-of : (o : Ordering) → ExactlyOne (◌≡◌ {A = Result Ordering Refusal} (Ok o) (Ok Less)) (◌≡◌ {A = Result Ordering Refusal} (Ok o) (Ok Equal)) (◌≡◌ {A = Result Ordering Refusal} (Ok o) (Ok Greater))
+one-of Less = first refl (λ e. cc) (λ e. cc)
+one-of Equal = second (λ e. cc) refl (λ e. cc)
+one-of Greater = third (λ e. cc) (λ e. cc) refl
 
 -- ---- the laws
 pub swaps : Swaps
@@ -60,7 +65,7 @@ carries a b c r s t h k l p q =
 
 pub one_holds : OneHolds
 unfolding compared
-one_holds a b r w v h = rw (the-answer a b r h, w, v) (one_of (value a) (value b))
+one_holds a b r w v h = rw (the-answer a b r h, w, v) (one-of (order_z (value a) (value b)))
 
 pub reverses : Reverses
 unfolding compared
@@ -75,29 +80,29 @@ equal-prints a b r xs ys m n h p q =
     let t = prints-text b ys q in
     let u : IsDecimal a = record { nine = m; well = s.0 } in
     let v : IsDecimal b = record { nine = n; well = t.0 } in
-    let o : r ≡ order_z (value a) (value b) = the-answer a b r h ∙ rw (s.0, t.0) in
+    let o : r ≡ Ok (order_z (value a) (value b)) = the-answer a b r h ∙ rw (s.0, t.0) in
     rw (s.1, t.1) (
-      λ (e : r ≡ Equal). same-plain a b u v (equal-same (value a) (value b) (sym o ∙ e)),
-      λ (e : plain (printed a) ≡ plain (printed b)). o ∙ rw (plain_value a b u v e) (same-equal (value b)),
+      λ (e : r ≡ Ok Equal). same-plain a b u v (equal-same (value a) (value b) (cc)),
+      λ (e : plain (printed a) ≡ plain (printed b)). o ∙ rw (plain_value a b u v e, same-equal (value b)),
     )
 
 -- ---- what follows
 pub itself : Itself
 unfolding compared
-itself a r w h = the-answer a a r h ∙ rw w (same-equal (value a))
+itself a r w h = the-answer a a r h ∙ rw (w, same-equal (value a))
 
 -- less or equal, and not so the other way
-strict : (t : Compared) → is_le t ≡ true → (is_le (reversed t) ≡ true → ⊥) → t ≡ Less
-strict Less e f = refl
-strict Equal e f = absurd (f refl)
-strict Greater e f = absurd (subst T (sym e) tt)
-strict (Refused n) e f = absurd (subst T (sym e) tt)
+strict : (t : Result Ordering Refusal) → is_le t ≡ true → (is_le (reversed t) ≡ true → ⊥) → t ≡ Ok Less
+strict (Ok Less) e f = refl
+strict (Ok Equal) e f = absurd (f refl)
+strict (Ok Greater) e f = absurd (cc)
+strict (Err n) e f = absurd (cc)
 
-not_back : (t : Compared) → t ≡ Less → is_le (reversed t) ≡ true → ⊥
-not_back t e f = subst T (sym f ∙ ap (λ (x : Compared). is_le (reversed x)) e) tt
+not_back : (t : Result Ordering Refusal) → t ≡ Ok Less → is_le (reversed t) ≡ true → ⊥
+not_back t e f = let g : is_le (reversed (Ok Less)) ≡ true = rw e at f in cc
 
 -- Were the third at most the first, then by `carries` the second were, or the third at most the second.
-module _ (a b c : Decimal) (r s t : Compared) (h : Compares a b r) (k : Compares b c s) (l : Compares a c t) where
+module _ (a b c : Decimal) (r s t : Result Ordering Refusal) (h : Compares a b r) (k : Compares b c s) (l : Compares a c t) where
   third-first : is_le (reversed t) ≡ true → is_le (compared c a) ≡ true
   third-first f = ap is_le (swaps a c t (compared c a) l (compares c a)) ∙ f
 

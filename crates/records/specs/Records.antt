@@ -2,13 +2,13 @@
 -- the decimal of no digits, which every function of decimals refuses by 26; what stands behind the twelve is not read. Numbers that are not of 32 bits are
 -- told by their low 32 bits.
 -- Assumes nothing.
-use Rattle.std.specs.Prelude.{ℕ, ◌+◌, false, cond, List, ◌∷◌, ltb, eqb, length, get_or}
-use Rattle.refusal.specs.Told.{Told, answer, refusal}
+use Rattle.std.specs.Prelude.{ℕ, ◌+◌, false, cond, List, ◌∷◌, ltb, length, get_or, Result}
+use Rattle.refusal.specs.declared.Refusal.{Refusal}
+use Rattle.refusal.specs.Told.{Told, told_by}
 use Rattle.lent.specs.Layout.{flag, low}
 use Rattle.groups.specs.Numbers.{tab}
 use Rattle.groups.specs.Read.{zeros}
 use Rattle.decimal.specs.declared.Decimal.{Decimal}
-use Rattle.decimal.specs.declared.Answer.{Answer}
 
 -- the decimal of twelve numbers
 unfoldable pub decimal_in : List ℕ → Decimal
@@ -27,5 +27,5 @@ abbrev pub record_numbers : Decimal → List ℕ
 record_numbers d = low d.intg ∷ low d.frac ∷ cond d.sign 1 0 ∷ d.groups
 
 -- a decimal that is answered, or its refusal
-unfoldable pub record_told : Answer → Told
-record_told a = cond (eqb a.refusal 0) (answer (record_numbers a.decimal)) (refusal a.refusal)
+unfoldable pub record_told : Result Decimal Refusal → Told
+record_told a = told_by record_numbers a

@@ -2,100 +2,58 @@
 // front; a slice that is too short is refused by 25, and a refusal changes nothing.
 #![tactic(auto)]
 
-ghost use Rattle.std.specs.Prelude.{◌≡◌, cond, ◌+◌, ◌≤◌, length, get_or};
-ghost use Rattle.std.proofs.Math.Seq.{paste};
-ghost use Rattle.groups.specs.Numbers.{tab};
-ghost use Rattle.lent.specs.Layout.{laid, Relays};
+ghost use Rattle.std.specs.Prelude.{◌≡◌};
+ghost use Rattle.lent.specs.Layout.{Relays};
+ghost use Rattle.refusal.specs.Told.{told_by};
 ghost use Rattle.records.specs.Records.{decimal_by, record_numbers, record_told};
 
-use decimal::{Answer, Decimal};
-
-fn widen(n: u8) -> u32
-    ensures { result ≡ n }
-{
-    n as u32
-}
-
-fn wide(n: u32) -> usize
-    ensures { result ≡ n }
-{
-    n as usize
-}
-
-// The groups of a decimal of twelve numbers. A loop, since the compiler then leaves them where they are.
-fn groups_in(xs: &[u32]) -> [u32; 9]
-    requires { 12 ≤ length xs.now }
-    ensures { result ≡ tab 9 (λ k. get_or xs.now (k + 3) 0) }
-{
-    let mut groups = [0u32; 9];
-    for k in 0..9 {
-        groups[k] = xs[k + 3];
-    }
-    groups
-}
+use decimal::Decimal;
+use refusal::Refusal;
 
 // The decimal of twelve numbers; of fewer the record of no digits, which is no decimal.
+#[tactic(auto, unfolding(crate::specs::Records::decimal_by, crate::specs::Records::decimal_in))]
 pub fn decimal_in(xs: &[u32]) -> Decimal
     ensures { result ≡ decimal_by xs.now }
 {
+    let mut groups = [0u32; 9];
     if xs.len() < 12 {
-        let none = [0u32; 9];
         return Decimal {
             intg: 0,
             frac: 0,
             sign: false,
-            groups: none,
+            groups,
         };
     }
+    groups.copy_from_slice(&xs[3..12]);
     Decimal {
-        intg: wide(xs[0]),
-        frac: wide(xs[1]),
+        intg: xs[0] as usize,
+        frac: xs[1] as usize,
         sign: xs[2] != 0,
-        groups: groups_in(xs),
+        groups,
     }
 }
 
-fn sign_number(negative: bool) -> u32
-    ensures { result ≡ cond negative 1 0 }
+fn record_numbers(d: Decimal) -> [u32; 12]
+    ensures { result ≡ record_numbers d }
 {
-    if negative {
-        return 1;
-    }
-    0
+    let mut numbers = [0u32; 12];
+    numbers[0] = (d.intg % 4294967296) as u32;
+    numbers[1] = (d.frac % 4294967296) as u32;
+    numbers[2] = u32::from(d.sign);
+    numbers[3..].copy_from_slice(&d.groups);
+    numbers
 }
 
-// Nine groups behind three numbers.
-fn put_groups(answer: &mut [u32], groups: [u32; 9])
-    requires { 12 ≤ length answer.old }
-    ensures { answer.new ≡ paste answer.old 3 groups 9 }
+#[tactic(auto, unfolding(crate::specs::Records::record_told))]
+fn record_row(a: Result<Decimal, Refusal>) -> Result<[u32; 12], Refusal>
+    ensures { told_by (λ numbers. numbers) result ≡ record_told a }
 {
-    for k in 0..9 {
-        answer[3 + k] = groups[k];
-    }
-}
-
-fn put_decimal(answer: &mut [u32], d: Decimal)
-    requires { 12 ≤ length answer.old }
-    ensures { answer.new ≡ laid (record_numbers d) answer.old }
-{
-    answer[0] = (d.intg % 4294967296) as u32;
-    answer[1] = (d.frac % 4294967296) as u32;
-    answer[2] = sign_number(d.sign);
-    let gs = d.groups;
-    put_groups(answer, gs);
+    Ok(record_numbers(a?))
 }
 
 // A decimal that is answered, or a refusal: twelve numbers.
-pub fn put_answer(answer: &mut [u32], a: Answer) -> u32
+pub fn put_answer(answer: &mut [u32], a: Result<Decimal, Refusal>) -> u32
     ensures { Relays 12 (record_told a) answer.old result answer.new }
 {
-    if answer.len() < 12 {
-        return 25;
-    }
-    if a.refusal != 0 {
-        return widen(a.refusal);
-    }
-    let d = a.decimal;
-    put_decimal(answer, d);
-    0
+    lent::relay(answer, record_row(a))
 }

@@ -3,7 +3,7 @@
 #![tactic(auto)]
 
 ghost use Rattle.std.specs.Prelude.{◌≡◌};
-ghost use Rattle.gate.specs.Said.{read_said};
+ghost use Rattle.gate.specs.Said.{read_said, said};
 ghost use Rattle.jsonb.specs.Views.{root_read, elem_at, key_at, count_at};
 ghost use Rattle.decimal.specs.Read.{read_bin, read_packed};
 ghost use Rattle.decimal.specs.Text.{parse_text};
@@ -11,7 +11,8 @@ ghost use Rattle.lent.specs.Layout.{Relays, beside, flag};
 ghost use Rattle.rows.specs.Rows.{value_told};
 ghost use Rattle.small_rows.specs.SmallRows.{key_told, count_told};
 ghost use Rattle.surface.specs.Documents.{view_by, walk_told, walk_leaves};
-ghost use Rattle.time.specs.Answers.{read_says};
+ghost use Rattle.refusal.specs.Told.{told_by};
+ghost use Rattle.time.specs.Answers.{numbers, written};
 ghost use Rattle.surface.specs.Times.{typed_told, time_told, record_told, record_leaves, time_written_told, time_written_leaves};
 ghost use Rattle.surface.specs.Decimals.{decimal_told, written_told, written_leaves, printed_told, printed_leaves, order_told};
 
@@ -19,11 +20,12 @@ use decimal::Decimal;
 use layout::Kind;
 use records::{decimal_in, put_answer};
 use rows::put_found;
+use refusal::Refusal;
 use small_records::{put_compared, put_counted};
 use small_rows::{put_count, put_key, put_walked};
-use time::{MysqlTime, TimeRead, TimeType, TimeTypeOf};
-use time_records::{TimeRecord, put_read, written_number};
-use value::View;
+use time::{MysqlTime, TimeType};
+use time_records::put_read;
+use value::{Value, View};
 
 // A view by its numbers: the type code says of what kind it is.
 fn view_by(code: u32, start: u32, size: u32, count: u32) -> View
@@ -51,12 +53,18 @@ fn view_by(code: u32, start: u32, size: u32, count: u32) -> View
     }
 }
 
+fn root(doc: &[u8]) -> Result<Option<Value>, Refusal>
+    ensures { said result ≡ read_said (root_read doc.now) }
+{
+    Ok(Some(jsonb::deserialize(doc)?))
+}
+
 // The root value.
 #[unsafe(no_mangle)]
 pub extern "C" fn bratthelm_root(doc: &[u8], answer: &mut [u32]) -> u32
     ensures { Relays 5 (value_told (read_said (root_read doc.now))) answer.old result answer.new }
 {
-    put_found(answer, gate::found_of(jsonb::deserialize(doc)))
+    put_found(answer, root(doc))
 }
 
 // The element, or the member's value, at a position of a container.
@@ -122,7 +130,7 @@ pub extern "C" fn bratthelm_walk(doc: &[u8], events: &mut [u32], answer: &mut [u
     ensures events_after { events.new ≡ beside 2 answer.old events.old (walk_leaves doc.now events.old) }
 {
     if answer.len() < 2 {
-        return 25;
+        return u32::from(Refusal::Room.number());
     }
     put_walked(answer, walk::walk(doc, events))
 }
@@ -170,11 +178,10 @@ pub extern "C" fn bratthelm_decimal_write_bin(
     ensures relays { Relays 1 (written_told decimal.now bytes.old) answer.old result answer.new }
     ensures bytes_after { bytes.new ≡ written_leaves decimal.now bytes.old answer.old }
 {
-    if answer.len() < 1 {
-        return 25;
+    if answer.is_empty() {
+        return u32::from(Refusal::Room.number());
     }
-    let d = decimal_in(decimal);
-    put_counted(answer, d.write_bin(bytes))
+    put_counted(answer, decimal_in(decimal).write_bin(bytes))
 }
 
 // The text of a decimal, into a lent slice; the answer is how many characters it has.
@@ -187,11 +194,10 @@ pub extern "C" fn bratthelm_decimal_print(
     ensures relays { Relays 1 (printed_told decimal.now text.old) answer.old result answer.new }
     ensures text_after { text.new ≡ printed_leaves decimal.now text.old answer.old }
 {
-    if answer.len() < 1 {
-        return 25;
+    if answer.is_empty() {
+        return u32::from(Refusal::Room.number());
     }
-    let d = decimal_in(decimal);
-    put_counted(answer, d.print(text))
+    put_counted(answer, decimal_in(decimal).print(text))
 }
 
 // The order of two decimals by value: 0 less, 1 equal, 2 greater.
@@ -199,17 +205,16 @@ pub extern "C" fn bratthelm_decimal_print(
 pub extern "C" fn bratthelm_decimal_compare(left: &[u32], right: &[u32], answer: &mut [u32]) -> u32
     ensures { Relays 1 (order_told left.now right.now) answer.old result answer.new }
 {
-    let a = decimal_in(left);
-    put_compared(answer, a.compare(decimal_in(right)))
+    put_compared(answer, decimal_in(left).compare(decimal_in(right)))
 }
 
 // A date or time of a type, or 30 where a number names none.
-fn read_typed(bytes: &[u8], t: TimeTypeOf) -> TimeRead
-    ensures { read_says result ≡ typed_told t bytes.now }
+fn read_typed(bytes: &[u8], kind: Option<TimeType>) -> Result<MysqlTime, Refusal>
+    ensures { told_by numbers result ≡ typed_told kind bytes.now }
 {
-    match t {
-        TimeTypeOf::Known(kind) => MysqlTime::read_packed(bytes, kind),
-        TimeTypeOf::Other => TimeRead::Refused(refusal::TIME_FIELD),
+    match kind {
+        Some(kind) => MysqlTime::read_packed(bytes, kind),
+        None => Err(Refusal::TimeField),
     }
 }
 
@@ -225,14 +230,11 @@ pub extern "C" fn bratthelm_time_read_packed(
     put_read(answer, read_typed(bytes, TimeType::of(time_type)))
 }
 
-fn write_record(t: TimeRecord, bytes: &mut [u8]) -> u32
-    ensures value { result ≡ (record_told t bytes.old).number }
-    ensures bytes_after { bytes.new ≡ record_leaves t bytes.old }
+fn write_record(time: Option<MysqlTime>, bytes: &mut [u8]) -> Result<(), Refusal>
+    ensures value { told_by written result ≡ record_told time bytes.old }
+    ensures bytes_after { bytes.new ≡ record_leaves time bytes.old }
 {
-    match t {
-        TimeRecord::Time(x) => written_number(x.write_packed(bytes)),
-        TimeRecord::Nothing => 30,
-    }
+    time.ok_or(Refusal::TimeField)?.write_packed(bytes)
 }
 
 // The packed form of a date or time, into the first eight bytes of a lent slice. There is no answer but the number that is returned.
@@ -241,5 +243,8 @@ pub extern "C" fn bratthelm_time_write_packed(time: &[u32], bytes: &mut [u8]) ->
     ensures value { result ≡ (time_written_told time.now bytes.old).number }
     ensures bytes_after { bytes.new ≡ time_written_leaves time.now bytes.old }
 {
-    write_record(time_records::time_by(time), bytes)
+    match write_record(time_records::time_by(time), bytes) {
+        Ok(()) => 0,
+        Err(refusal) => u32::from(refusal.number()),
+    }
 }

@@ -2,55 +2,41 @@
 // and stores the answer's number at the front; an empty slice is refused by 25, and a refusal changes nothing.
 #![tactic(auto)]
 
-ghost use Rattle.std.specs.Prelude.{◌≡◌, [], ◌∷◌, ◌≤◌, length};
-ghost use Rattle.order.specs.Value.{told};
-ghost use Rattle.lent.specs.Layout.{laid, Relays};
+ghost use Rattle.std.specs.Prelude.{◌≡◌, [], ◌∷◌};
+ghost use Rattle.order.specs.Value.{number_of, told};
+ghost use Rattle.refusal.specs.Told.{told_by};
+ghost use Rattle.lent.specs.Layout.{Relays};
 ghost use Rattle.small_records.specs.SmallRecords.{counted_told};
 
-use groups::Counted;
-use order::Compared;
+use refusal::Refusal;
+use std::cmp::Ordering;
 
-fn widen(n: u8) -> u32
-    ensures { result ≡ n }
+fn counted_row(c: Result<usize, Refusal>) -> Result<[u32; 1], Refusal>
+    ensures { told_by (λ numbers. numbers) result ≡ counted_told c }
 {
-    n as u32
+    Ok([(c? % 4294967296) as u32])
 }
 
 // A count of bytes or characters, or a refusal: one number.
-pub fn put_counted(answer: &mut [u32], c: Counted) -> u32
+pub fn put_counted(answer: &mut [u32], c: Result<usize, Refusal>) -> u32
     ensures { Relays 1 (counted_told c) answer.old result answer.new }
 {
-    if answer.len() < 1 {
-        return 25;
-    }
-    match c {
-        Counted::Bytes(n) => {
-            answer[0] = (n % 4294967296) as u32;
-            0
-        }
-        Counted::Refused(n) => widen(n),
-    }
+    lent::relay(answer, counted_row(c))
 }
 
-fn put_order(answer: &mut [u32], n: u32) -> u32
-    requires { 1 ≤ length answer.old }
-    ensures { (result ≡ 0) × (answer.new ≡ laid (n ∷ []) answer.old) }
+fn order_row(c: Result<Ordering, Refusal>) -> Result<[u32; 1], Refusal>
+    ensures { told_by (λ numbers. numbers) result ≡ told c }
 {
-    answer[0] = n;
-    0
+    Ok(match c? {
+        Ordering::Less => [0],
+        Ordering::Equal => [1],
+        Ordering::Greater => [2],
+    })
 }
 
 // The order of two decimals, 0 less, 1 equal, 2 greater, or a refusal: one number.
-pub fn put_compared(answer: &mut [u32], c: Compared) -> u32
+pub fn put_compared(answer: &mut [u32], c: Result<Ordering, Refusal>) -> u32
     ensures { Relays 1 (told c) answer.old result answer.new }
 {
-    if answer.len() < 1 {
-        return 25;
-    }
-    match c {
-        Compared::Less => put_order(answer, 0),
-        Compared::Equal => put_order(answer, 1),
-        Compared::Greater => put_order(answer, 2),
-        Compared::Refused(n) => widen(n),
-    }
+    lent::relay(answer, order_row(c))
 }

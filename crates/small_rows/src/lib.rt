@@ -3,98 +3,67 @@
 // and the place are stored.
 #![tactic(auto)]
 
-ghost use Rattle.std.specs.Prelude.{◌≡◌, [], ◌∷◌, ◌≤◌, length};
-ghost use Rattle.gate.specs.Said.{key_said};
-ghost use Rattle.jsonb.specs.Views.{count_said};
-ghost use Rattle.lent.specs.Layout.{laid, Relays};
+ghost use Rattle.std.specs.Prelude.{◌≡◌};
+ghost use Rattle.gate.specs.Said.{read_said, said};
+ghost use Rattle.lent.specs.Layout.{low, Relays};
+ghost use Rattle.refusal.specs.Told.{told_by};
 ghost use Rattle.small_rows.specs.SmallRows.{key_told, count_told, walked_told};
 
-use events::Walked;
-use gate::Key;
-use jsonb::Count;
+use events::Stopped;
+use refusal::Refusal;
+use value::Span;
 
-fn widen(n: u8) -> u32
-    ensures { result ≡ n }
+fn key_row(k: Result<Option<Span>, Refusal>) -> Result<[u32; 3], Refusal>
+    ensures { told_by (λ numbers. numbers) result ≡ key_told (said k) }
 {
-    n as u32
-}
-
-fn put_two(answer: &mut [u32], a: u32, b: u32)
-    requires { 2 ≤ length answer.old }
-    ensures { answer.new ≡ laid (a ∷ b ∷ []) answer.old }
-{
-    answer[0] = a;
-    answer[1] = b;
-}
-
-fn put_three(answer: &mut [u32], a: u32, b: u32, c: u32)
-    requires { 3 ≤ length answer.old }
-    ensures { answer.new ≡ laid (a ∷ b ∷ c ∷ []) answer.old }
-{
-    answer[0] = a;
-    answer[1] = b;
-    answer[2] = c;
+    match k? {
+        Some(s) => Ok([1, s.start, s.len]),
+        None => Ok([0; 3]),
+    }
 }
 
 // A key, nothing, or a refusal: three numbers.
-pub fn put_key(answer: &mut [u32], k: Key) -> u32
-    ensures { Relays 3 (key_told (key_said k)) answer.old result answer.new }
+pub fn put_key(answer: &mut [u32], k: Result<Option<Span>, Refusal>) -> u32
+    ensures { Relays 3 (key_told (said k)) answer.old result answer.new }
 {
-    if answer.len() < 3 {
-        return 25;
-    }
-    match k {
-        Key::Key(s) => {
-            put_three(answer, 1, s.start, s.len);
-            0
-        }
-        Key::Nothing => {
-            put_three(answer, 0, 0, 0);
-            0
-        }
-        Key::Refused(n) => widen(n),
-    }
+    lent::relay(answer, key_row(k))
+}
+
+fn count_row(c: Result<u32, Refusal>) -> Result<[u32; 1], Refusal>
+    ensures { told_by (λ numbers. numbers) result ≡ count_told (read_said c) }
+{
+    Ok([c?])
 }
 
 // A count, or a refusal: one number.
-pub fn put_count(answer: &mut [u32], c: Count) -> u32
-    ensures { Relays 1 (count_told (count_said c)) answer.old result answer.new }
+pub fn put_count(answer: &mut [u32], c: Result<u32, Refusal>) -> u32
+    ensures { Relays 1 (count_told (read_said c)) answer.old result answer.new }
 {
-    if answer.len() < 1 {
-        return 25;
-    }
-    match c {
-        Count::Count(n) => {
-            answer[0] = n;
-            0
-        }
-        Count::Refused(n) => widen(n),
-    }
+    lent::relay(answer, count_row(c))
+}
+
+fn low(n: usize) -> u32
+    ensures { result ≡ low n }
+{
+    (n % 4294967296) as u32
 }
 
 // How a walk ended: two numbers, of a refusal too.
-pub fn put_walked(answer: &mut [u32], w: Walked) -> u32
+#[tactic(auto, unfolding(lent::specs::Layout::returned, lent::specs::Layout::remains, lent::specs::Layout::laid))]
+pub fn put_walked(answer: &mut [u32], w: Result<usize, Stopped>) -> u32
     ensures { Relays 2 (walked_told w) answer.old result answer.new }
 {
     if answer.len() < 2 {
-        return 25;
+        return u32::from(Refusal::Room.number());
     }
     match w {
-        Walked::Done { count } => {
-            put_two(answer, (count % 4294967296) as u32, 0);
+        Ok(count) => {
+            answer[..2].copy_from_slice(&[low(count), 0]);
             0
         }
-        Walked::Stopped {
-            number,
-            place,
-            count,
-        } => {
-            put_two(
-                answer,
-                (count % 4294967296) as u32,
-                (place % 4294967296) as u32,
-            );
-            widen(number)
+        Err(s) => {
+            answer[..2].copy_from_slice(&[low(s.count), low(s.place)]);
+            u32::from(s.refusal.number())
         }
     }
 }

@@ -1,13 +1,13 @@
 -- Decimals as numbers. A decimal is twelve: the integral digits, the digits after the point, the sign (0, else 1), and nine groups. A list that is shorter is
 -- no decimal, 26; what stands behind the twelve is not read. `decimal_in` of the crate records is the decimal of twelve numbers.
 -- Assumes nothing.
-use Rattle.std.specs.Prelude.{ℕ, cond, List, ◌∷◌, ltb, eqb, length}
-use Rattle.refusal.specs.Told.{Told, answer, refusal}
+use Rattle.std.specs.Prelude.{ℕ, cond, List, ◌∷◌, ltb, length, Result}
+use Rattle.refusal.specs.declared.Refusal.{Refusal}
+use Rattle.refusal.specs.Told.{Told, refusal, told_by}
 use Rattle.decimal.specs.Write.{write_bin, bin_leaves}
 use Rattle.decimal.specs.Text.{print_told, print_leaves}
 use Rattle.decimal.specs.Value.{compare_told}
 use Rattle.decimal.specs.declared.Decimal.{Decimal}
-use Rattle.decimal.specs.declared.Answer.{Answer}
 use Rattle.lent.specs.Layout.{beside}
 use Rattle.records.specs.Records.{decimal_in}
 
@@ -15,8 +15,8 @@ abbrev pub decimal_numbers : Decimal → List ℕ
 decimal_numbers d = d.intg ∷ d.frac ∷ cond d.sign 1 0 ∷ d.groups
 
 -- a decimal that is answered, or its refusal
-unfoldable pub decimal_told : Answer → Told
-decimal_told a = cond (eqb a.refusal 0) (answer (decimal_numbers a.decimal)) (refusal a.refusal)
+unfoldable pub decimal_told : Result Decimal Refusal → Told
+decimal_told a = told_by decimal_numbers a
 
 -- what depends on a decimal, where the list holds one
 unfoldable pub held : {A : Type 0} → List ℕ → A → (Decimal → A) → A

@@ -44,8 +44,8 @@ returns c =
     let f = front-le s at (omega arith) in
     let p = pass s at c.loop-i.i (omega arith) (omega arith) in
     let n : ascii_end s at < c.loop-i.i + 64 = elim c.loop-i-test.branch [
-      then-loop-i-test+else-are_ascii w ↦ grind (arith, nat_tests)
-    | else-loop-i-test w ↦ omega arith
+      | then-loop-i-test+else-are_ascii w ↦ grind (arith, nat_tests)
+      | else-loop-i-test w ↦ omega arith
     ] in
     let q = pass s at c.step.result (omega arith) (omega arith) in
     let r = pass s at c.step-2.result (omega arith) (omega arith) in

@@ -1,6 +1,6 @@
 -- The first four bytes and the last four are all of four to seven.
 -- Assumes nothing.
-use Rattle.std.proofs.Common.{◌≡◌, ◌+◌, ◌-◌, ◌≤◌, length, arith}
+use Rattle.std.proofs.Common.{◌+◌, ◌-◌, ◌≤◌, length, arith}
 use Rattle.std.proofs.lemmas.Bool.Decides.{nat_tests}
 use Rattle.ascii.specs.Ascii.{ascii_end, front}
 use Rattle.ascii.proofs.Low.{pass, front-le}

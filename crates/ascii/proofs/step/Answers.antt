@@ -10,6 +10,6 @@ pub returns-else-at-s-clause-near : goal.returns-else-at-s-clause-near
 returns-else-at-s-clause-near g c =
     let f = front-le c.args.s.now c.args.at (omega arith) in
     elim c.else-at-s.branch [
-      else-at-s-via-then-at-s+else-are_ascii w ↦ grind (arith, nat_tests)
-    | else-at-s-via-else-at-s w ↦ grind (arith, nat_tests)
+      | else-at-s-via-then-at-s+else-are_ascii w ↦ grind (arith, nat_tests)
+      | else-at-s-via-else-at-s w ↦ grind (arith, nat_tests)
     ]

@@ -1,6 +1,6 @@
 -- The top bits are clear up to the first byte that is not ASCII.
 -- Assumes nothing.
-use Rattle.std.proofs.Common.{◌≡◌, ap, ◌∙◌, ◌+◌, ◌/◌, ℕ, bit_and, arith, ◌==◌}
+use Rattle.std.proofs.Common.{ap, ◌∙◌, ◌+◌, ◌/◌, ℕ, bit_and, arith, ◌==◌}
 use Rattle.std.specs.Int.{w64, trailing_zeros}
 use Rattle.ascii.proofs.Words.{tops-clear, tops-first}
 use Rattle.ascii.proofs.tops.Goals as goal
