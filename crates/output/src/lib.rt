@@ -2,7 +2,8 @@
 // room.
 #![tactic(auto)]
 
-ghost use Rattle.std.specs.Prelude.{◌≤◌, length};
+ghost use Rattle.std.specs.Prelude.{◌≡◌, ◌≤◌, length};
+ghost use Rattle.output.specs.Words.{kept_word};
 
 use refusal::Refusal;
 use std::fmt::{Display, Formatter};
@@ -53,6 +54,10 @@ impl Write for Output<'_> {
 pub struct Answer<T>(pub Result<T, Refusal>);
 
 impl<T: Display> Display for Answer<T> {
+    ghost use Rattle.output.specs.Words.{answer_words};
+
+    ghost output = { λ a. answer_words T.output a.0 };
+
     fn fmt<W: fmt::Write>(&self, f: &mut Formatter<W>) -> fmt::Result {
         match &self.0 {
             Ok(x) => write!(f, "{x}"),
@@ -66,6 +71,10 @@ impl<T: Display> Display for Answer<T> {
 pub struct Or<T>(pub Option<T>, pub &'static str);
 
 impl<T: Display> Display for Or<T> {
+    ghost use Rattle.output.specs.Words.{words_or};
+
+    ghost output = { λ o. words_or T.output o.1.now o.0 };
+
     fn fmt<W: fmt::Write>(&self, f: &mut Formatter<W>) -> fmt::Result {
         match &self.0 {
             Some(x) => write!(f, "{x}"),
@@ -74,14 +83,36 @@ impl<T: Display> Display for Or<T> {
     }
 }
 
+// A byte in two hexadecimal digits.
+#[derive(Clone, Copy)]
+struct HexByte(u8);
+
+impl Display for HexByte {
+    ghost use Rattle.std.specs.Prelude.{Some};
+    ghost use Rattle.output.specs.Words.{two_digits};
+
+    ghost output = { λ b. Some (two_digits b.0) };
+
+    #[tactic(auto, using(std::proofs::lemmas::Fmt::hex_byte))]
+    fn fmt<W: fmt::Write>(&self, f: &mut Formatter<W>) -> fmt::Result {
+        let byte = self.0;
+        write!(f, "{byte:02x}")
+    }
+}
+
 // Bytes in hexadecimal digits.
 #[derive(Clone, Copy)]
 pub struct Hex<'a>(pub &'a [u8]);
 
 impl Display for Hex<'_> {
+    ghost use Rattle.std.specs.Prelude.{Some};
+    ghost use Rattle.output.specs.Words.{hex};
+
+    ghost output = { λ h. Some (hex h.0.now) };
+
     fn fmt<W: fmt::Write>(&self, f: &mut Formatter<W>) -> fmt::Result {
         for b in self.0 {
-            write!(f, "{b:02x}")?;
+            write!(f, "{}", HexByte(*b))?;
         }
         Ok(())
     }
@@ -92,6 +123,11 @@ impl Display for Hex<'_> {
 pub struct HexWord<'a>(pub &'a [u8]);
 
 impl Display for HexWord<'_> {
+    ghost use Rattle.std.specs.Prelude.{Some};
+    ghost use Rattle.output.specs.Words.{hex_word};
+
+    ghost output = { λ h. Some (hex_word h.0.now) };
+
     fn fmt<W: fmt::Write>(&self, f: &mut Formatter<W>) -> fmt::Result {
         if self.0.is_empty() {
             return write!(f, "-");
@@ -105,6 +141,11 @@ impl Display for HexWord<'_> {
 pub struct Ascii<'a>(pub &'a [u8]);
 
 impl Display for Ascii<'_> {
+    ghost use Rattle.std.specs.Prelude.{Some};
+    ghost use Rattle.output.specs.Words.{characters};
+
+    ghost output = { λ a. Some (characters a.0.now) };
+
     fn fmt<W: fmt::Write>(&self, f: &mut Formatter<W>) -> fmt::Result {
         for b in self.0 {
             write!(f, "{}", char::from(*b))?;
@@ -150,6 +191,8 @@ impl Written {
     }
 }
 
-pub fn kept(is_kept: bool) -> &'static str {
+pub fn kept(is_kept: bool) -> &'static str
+    ensures { result.now ≡ kept_word is_kept }
+{
     if is_kept { "kept" } else { "touched" }
 }

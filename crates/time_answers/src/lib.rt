@@ -23,7 +23,7 @@ pub fn packed<W: Write>(out: &mut W, asked: &mut Asked<'_>) -> Result<(), Fault>
 // The date or time that a document's root is.
 fn root_time(doc: &[u8]) -> Result<Option<MysqlTime>, Refusal> {
     match opaque_time::time_part(jsonb::deserialize(doc)?) {
-        Some(part) => Ok(Some(opaque_time::opaque_time(doc, part.part, part.kind)?)),
+        Some((kind, part)) => Ok(Some(opaque_time::opaque_time(doc, part, kind)?)),
         None => Ok(None),
     }
 }

@@ -34,7 +34,7 @@ fn packed<W: Write>(out: &mut W, t: TimeType, bytes: &[u8]) -> io::Result<()> {
 // The date or time that a value of a document is.
 fn write_part<W: Write>(out: &mut W, doc: &[u8], x: Value) -> io::Result<()> {
     match opaque_time::time_part(x) {
-        Some(part) => write_read(out, opaque_time::opaque_time(doc, part.part, part.kind)),
+        Some((kind, part)) => write_read(out, opaque_time::opaque_time(doc, part, kind)),
         None => writeln!(out, "other"),
     }
 }
