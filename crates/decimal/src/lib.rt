@@ -33,17 +33,19 @@ impl From<Decimal> for Parts {
     ghost from_gives = { λ d p. p ≡ parts_of d };
 
     fn from(d: Decimal) -> Parts {
+        let groups = d.groups;
         Parts {
             negative: d.sign,
             intg: d.intg,
             frac: d.frac,
-            groups: d.groups,
+            groups,
         }
     }
 }
 
 impl Decimal {
     // The bytes that this decimal takes.
+    #[tactic(auto, unfolding(crate::specs::Write::bin_size))]
     pub fn bin_size(self) -> Result<usize, Refusal>
         ensures { count_told result ≡ bin_size self }
     {
@@ -53,6 +55,7 @@ impl Decimal {
     }
 
     // The decimal in the digit bytes at the front; a zero is positive, whatever they say.
+    #[tactic(auto, unfolding(crate::specs::Read::read_bin, crate::specs::Read::from_groups))]
     pub fn read_bin(
         bytes: &[u8],
         precision: usize,
@@ -73,6 +76,7 @@ impl Decimal {
     }
 
     // The decimal in the packed form at the front: a precision byte, a scale byte and digit bytes.
+    #[tactic(auto, unfolding(crate::specs::Read::read_packed))]
     pub fn read_packed(bytes: &[u8], keep: bool) -> Result<Decimal, Refusal>
         ensures { result ≡ read_packed bytes.now keep }
     {
@@ -91,6 +95,7 @@ impl Decimal {
     }
 
     // The decimal that the text writes; a zero is positive.
+    #[tactic(auto, unfolding(crate::specs::Text::parse_text, crate::specs::Text::of_digits))]
     pub fn parse_str_bytes(text: &[u8]) -> Result<Decimal, Refusal>
         ensures { result ≡ parse_text text.now }
     {
@@ -98,6 +103,7 @@ impl Decimal {
     }
 
     // Prints the decimal to the front of the output, and counts the characters. A refusal changes nothing.
+    #[tactic(auto, unfolding(crate::specs::Text::print_told, crate::specs::Text::print_leaves, crate::specs::Text::printed, printing::specs::Print::print_told, printing::specs::Print::print_leaves))]
     pub fn print(self, out: &mut [u8]) -> Result<usize, Refusal>
         ensures result_value { count_told result ≡ print_told self out.old }
         ensures out_after { out.new ≡ print_leaves self out.old }
@@ -106,6 +112,7 @@ impl Decimal {
     }
 
     // The order of the two values. That its answers are an order, and how they go with what is printed: specs/Order.antt of the crate order_laws.
+    #[tactic(auto, unfolding(crate::specs::Value::compare_told, crate::specs::Value::value, order::specs::Value::compare_told))]
     pub fn compare(self, other: Decimal) -> Result<Ordering, Refusal>
         ensures { told result ≡ compare_told self other }
     {

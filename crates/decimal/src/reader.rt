@@ -5,6 +5,7 @@ ghost use Rattle.decimal.specs.Read.{negative as is_negative, nought, decimal_of
 use super::Decimal;
 use groups::Parts;
 
+#[tactic(auto, unfolding(crate::specs::Read::negative))]
 pub(crate) fn is_negative(bytes: &[u8]) -> bool
     ensures { result ≡ is_negative bytes.now }
 {
@@ -12,6 +13,7 @@ pub(crate) fn is_negative(bytes: &[u8]) -> bool
 }
 
 // The decimal with these parts, read with a minus or without: a zero is positive.
+#[tactic(auto, unfolding(crate::specs::Read::decimal_of))]
 pub(crate) fn decimal_of(parts: Parts) -> Decimal
     ensures { result ≡ decimal_of parts.intg parts.frac parts.negative parts.groups }
 {
@@ -24,6 +26,7 @@ pub(crate) fn decimal_of(parts: Parts) -> Decimal
 }
 
 // The same, and positive 0 where no digit is left.
+#[tactic(auto, unfolding(crate::specs::Read::or_nought))]
 fn or_nought(parts: Parts) -> Decimal
     ensures { result ≡ or_nought parts.intg parts.frac parts.negative parts.groups }
 {
@@ -39,12 +42,14 @@ fn or_nought(parts: Parts) -> Decimal
 }
 
 // The decimal with these parts, with its precision kept or not.
+#[tactic(auto, unfolding(crate::specs::Read::finished))]
 pub(crate) fn finish(keep: bool, parts: Parts) -> Decimal
     ensures { result ≡ finished keep parts.intg parts.frac parts.negative parts.groups }
 {
-    or_nought(if keep {
+    let left = if keep {
         parts
     } else {
         kept::without_leading(parts)
-    })
+    };
+    or_nought(left)
 }
