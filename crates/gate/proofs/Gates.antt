@@ -103,9 +103,6 @@ module _ (d : List ℕ) (v : View) (asked : Bool) (i : ℕ) where
     unfolding gate_of
     facts = gate-by (ltb 16777216 (length d)) asked (matches d v) (leb v.count i) ge
 
-    pub asked-so : asked ≡ true
-    asked-so = facts.1
-
     pub open-whole : Whole d v i
     open-whole =
         let h = headed d v.kind v.start (length d) v.count v.size (matched d v facts.2) in

@@ -10,8 +10,7 @@ use borrow.Author.Tests.{le-ltb, ltb-false}
 use Rattle.std.specs.Prelude.{Result, Ok, Err, ⊤}
 use Rattle.refusal.specs.declared.Refusal.{Refusal}
 use Rattle.refusal.specs.declared.Refusal.TheVariants as refusal
-use Rattle.layout.specs.declared.Kind.{Kind}
-use Rattle.header.specs.Headers.{place_of, placed, then, header_at, header_read}
+use Rattle.header.specs.Headers.{place_of, placed, then}
 use Rattle.header.specs.Course.{Within}
 
 -- what comes first was no refusal where the whole is none
@@ -42,7 +41,3 @@ module _ (d : List ℕ) (i e : ℕ) where
   -- there the definition is what is read
   pub placed-within : {A : Type 0} {x : Result A Refusal} → Within (length d) i e → placed d i e x ≡ x
   placed-within w = rw (no-fault w) refl
-
-  pub header-within : (k : Kind) → Within (length d) i e → header_read d k i e ≡ header_at d k i e
-  unfolding header_read
-  header-within k w = placed-within w
