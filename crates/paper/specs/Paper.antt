@@ -2,12 +2,13 @@
 -- for what document 02 adds, the byte at which text breaks (W5) and the index of an event's container, its ninth number (W6). A kind of question is a
 -- constructor of `Row`, and `asked` says what the definitions answer to it: a thing, nothing, or the number of the refusal.
 -- Assumes nothing.
-use Rattle.std.specs.Prelude.{ℕ, Bool, true, false, cond, List, [], ◌∷◌, ◌++◌, eqb, ℤ, negsuc, take, drop}
+use Rattle.std.specs.Prelude.{ℕ, Bool, true, false, cond, List, [], ◌∷◌, ◌++◌, ℤ, negsuc, take, drop, Result, Ok, Err}
 use Rattle.decimal.specs.Read.{read_bin, read_packed}
 use Rattle.decimal.specs.Write.{is_well}
 use Rattle.decimal.specs.Text.{printed}
 use Rattle.decimal.specs.declared.Decimal.{Decimal}
-use Rattle.decimal.specs.declared.Answer.{Answer}
+use Rattle.refusal.specs.declared.Refusal.{Refusal}
+use Rattle.refusal.specs.Refusals.{number_of}
 use Rattle.codes.specs.declared.types.JsonbType.{JsonbType}
 use Rattle.codes.specs.declared.types.JsonbType.TheVariants as type
 use Rattle.value.specs.declared.View.{View}
@@ -20,8 +21,7 @@ use Rattle.value.specs.declared.Value.TheVariants as value
 use Rattle.content.specs.Reading.{kind, span, view}
 use Rattle.gate.specs.Said.{Said, says, nothing, refuses, read_said}
 use Rattle.jsonb.specs.Views.{root_read, elem_at, key_at}
-use Rattle.events.specs.declared.Walked.{Walked}
-use Rattle.events.specs.declared.Walked.TheVariants.{Done, Stopped}
+use Rattle.events.specs.Walked.{Walked, Done, Stopped}
 use Rattle.paths.specs.Shown.{Answer as Ended, flat, told, ends, shown}
 
 pub data Row : Type 0 where
@@ -52,8 +52,9 @@ pub data Thing : Type 0 where
 unfoldable pub prints : Decimal → Said Thing
 prints d = cond (is_well d) (says (text (printed d))) (refuses 26)
 
-unfoldable pub printed_or : Answer → Said Thing
-printed_or a = cond (eqb a.refusal 0) (prints a.decimal) (refuses a.refusal)
+unfoldable pub printed_or : Result Decimal Refusal → Said Thing
+printed_or (Ok d) = prints d
+printed_or (Err r) = refuses (number_of r)
 
 -- ---- documents
 -- what a thing that is said is asked further

@@ -74,7 +74,13 @@ fn literal(w: Window<'_>) -> Result<Sight, Refusal>
         return Err(Refusal::Cut);
     }
     LiteralType::try_from(w.doc[w.at])?;
-    Ok(plain(JsonbType::Literal, Span { start: w.at as u32, len: 1 }))
+    Ok(plain(
+        JsonbType::Literal,
+        Span {
+            start: w.at as u32,
+            len: 1,
+        },
+    ))
 }
 
 #[tactic(auto, unfolding(content::specs::Reading::opaque_at))]
@@ -119,7 +125,13 @@ fn shown(w: Window<'_>, t: JsonbType) -> Result<Sight, Refusal>
 
 // What the value entry at a place shows, of a container with these bounds.
 #[tactic(auto, unfolding(crate::specs::Sights::sight_at, crate::specs::Sights::start_by, entry::specs::Entries::typed_entry, entry::specs::Entries::pointed_at, content::specs::Reading::read_at))]
-pub fn sight_at(doc: &[u8], large: bool, start: u32, size: u32, place: usize) -> Result<Sight, Refusal>
+pub fn sight_at(
+    doc: &[u8],
+    large: bool,
+    start: u32,
+    size: u32,
+    place: usize,
+) -> Result<Sight, Refusal>
     ensures { result ≡ sight_at doc.now large start size place }
 {
     let k = Kind {
@@ -134,7 +146,14 @@ pub fn sight_at(doc: &[u8], large: bool, start: u32, size: u32, place: usize) ->
     let body = place + 1;
     let t = JsonbType::try_from(doc[place])?;
     if entry::is_inlined(t, large) {
-        return shown(Window { doc, at: body, end: next }, t);
+        return shown(
+            Window {
+                doc,
+                at: body,
+                end: next,
+            },
+            t,
+        );
     }
     let at = start + Window { doc, at: body, end }.offset(k) as usize;
     if at < next || end < at {

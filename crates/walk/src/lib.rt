@@ -16,7 +16,6 @@ ghost use Rattle.walk.specs.Course.{seen_text, seen_container, container_in, ent
 ghost use Rattle.walk.specs.Tested.{Last, Fits};
 
 pub use events::Stopped;
-
 use events::{Event, WIDE};
 use header::Window;
 use layout::Kind;
@@ -133,7 +132,9 @@ fn list_value(
     ensures last { MatchResult result (λ u. Last doc.now out.new (n + 1)) (λ s. ⊤) }
 {
     let v = e.view;
-    let x = sight::sight_at(doc, v.kind.large, v.start, v.size, place).map_err(|refusal| stopped(refusal, place, n))?;
+    let x = sight::sight_at(doc, v.kind.large, v.start, v.size, place).map_err(|refusal| stopped(
+        refusal, place, n,
+    ))?;
     seen_check(doc, out, n, x).map_err(|byte| stopped(Refusal::Utf8, byte, n))?;
     if room <= n {
         return Err(stopped(Refusal::Events, place, n));

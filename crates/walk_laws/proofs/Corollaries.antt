@@ -12,11 +12,11 @@ use Rattle.rfc3629.specs.Grammar.{none}
 use Rattle.codes.specs.declared.types.JsonbType.TheVariants as type
 use Rattle.value.specs.declared.Scalar.TheVariants as scalar
 use Rattle.value.specs.declared.Value.TheVariants as value
-use Rattle.content.specs.declared.Read.TheVariants as read
+use Rattle.std.specs.Prelude.{Err}
+use Rattle.refusal.specs.declared.Refusal.TheVariants as refusals
 use Rattle.gate.specs.Said.{read_said}
 use Rattle.jsonb.specs.Views.{root_read}
-use Rattle.events.specs.declared.Walked.{Walked}
-use Rattle.events.specs.declared.Walked.TheVariants.{Done, Stopped}
+use Rattle.events.specs.Walked.{Walked, Done, Stopped}
 use Rattle.events.specs.Events.{no_key, wide}
 use Rattle.paths.specs.Judged.{Stand}
 use Rattle.events.specs.Lay.{room}
@@ -125,7 +125,7 @@ shared-bytes d xs v π ρ s t a b n = (v.all a tt, (v.all b tt, λ e. n (ap (λ 
 
 -- ---- a document above the length limit is refused at once, and the lent list is as it was
 module _ (d : List ℕ) (h : 16777216 < length d) where
-  long-read : root_read d ≡ read.Refused 1
+  long-read : root_read d ≡ Err refusals.Document
   unfolding root_read
   long-read = rw (lt-ltb 16777216 (length d) h)
 

@@ -13,11 +13,10 @@ use Rattle.value.specs.declared.Span.{Span}
 use Rattle.value.specs.declared.Scalar.TheVariants as scalar
 use Rattle.value.specs.declared.Value.{Value}
 use Rattle.value.specs.declared.Value.TheVariants as value
-use Rattle.content.specs.declared.Read.{Read}
-use Rattle.content.specs.declared.Read.TheVariants as read
+use Rattle.std.specs.Prelude.{Result, Ok, Err}
+use Rattle.refusal.specs.declared.Refusal.{Refusal}
 use Rattle.gate.specs.Said.{Said, says, nothing, refuses, read_said}
 use Rattle.gate.specs.Before.{Whole, gate_of}
-use Rattle.gate.specs.declared.Gate.TheVariants.{Open}
 use Rattle.gate.proofs.Gates.{open-whole}
 use Rattle.jsonb.specs.Views.{root_read, key_at}
 use Rattle.jsonb_laws.proofs.Inside.{root-inside, elem-inside, key-inside}
@@ -52,12 +51,12 @@ leads-entry {d} (down {i = i} h b) =
 
 -- ---- its view lies in the document
 module _ (d : List ℕ) (v : View) (w : Stands d v) (i : ℕ) (h : i < v.count) where
-  opens : gate_of d v true i ≡ Open
+  opens : gate_of d v true i ≡ Ok true
   unfolding gate_of
   opens = rw (le-ltb 16777216 (length d) w.short, w.whole, lt-leb v.count i h)
 
   pub is_whole : Whole d v i
-  is_whole = open-whole d v true i refl opens
+  is_whole = open-whole d v true i opens
 
 -- ---- and so do its key and a string
 -- what is said of a key that is none, and of one that is there
@@ -76,9 +75,9 @@ module _ (d : List ℕ) (v : View) (w : Stands d v) (i : ℕ) (h : i < v.count) 
       go true {k} e = let o = is_whole d v w i h in let s = key-inside d v i k e in omega (arith, o.inside, s.high)
       go false {k} e = subst (λ (j : Span). j.start + j.len ≤ length d) (said-key e) (omega arith)
 
-read-said : (r : Read) {x : Value} → read_said r ≡ says x → r ≡ read.Value x
-read-said (read.Value y) {x} e = let z : y ≡ x = cc in ap read.Value z
-read-said (read.Refused n) e = let z : ◌≡◌ {A = ℕ} 0 1 = cc in absurd (omega arith)
+read-said : (r : Result Value Refusal) {x : Value} → read_said r ≡ says x → r ≡ Ok x
+read-said (Ok y) {x} e = cc
+read-said (Err f) e = cc
 
 root-texts : (d : List ℕ) → TextInside d (root_stand d)
 root-texts d =

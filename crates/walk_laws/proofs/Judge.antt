@@ -10,17 +10,13 @@ use native.Mathlib.Omega.{arith}
 use lib.Dec.{ltb}
 use lib.ListN.{length}
 use borrow.Author.Tests.{ltb-true, ltb-false}
-use Rattle.utf8.specs.declared.Utf8Check.{Utf8Check}
-use Rattle.utf8.specs.declared.Utf8Check.TheVariants.{Valid, Bad}
+use Rattle.std.specs.Prelude.{Result, Ok, Err, ⊤}
+use Rattle.refusal.specs.declared.Refusal.{Refusal}
 use Rattle.value.specs.declared.View.{View}
 use Rattle.value.specs.declared.Span.{Span}
 use Rattle.value.specs.declared.Value.{Value}
-use Rattle.content.specs.declared.Read.{Read}
-use Rattle.content.specs.declared.Read.TheVariants as read
-use Rattle.content.specs.declared.Part.{Part}
-use Rattle.content.specs.declared.Part.TheVariants as part
 use Rattle.entry.specs.Entries.{entry_read, key_read}
-use Rattle.gate.specs.Said.{Said, says, nothing, refuses, read_said, part_said}
+use Rattle.gate.specs.Said.{Said, says, nothing, refuses, read_said}
 use Rattle.jsonb.specs.Views.{root_read}
 use Rattle.events.specs.declared.Spot.{Spot}
 use Rattle.events.specs.Events.{no_key, event_of}
@@ -46,15 +42,15 @@ module _ (d : List ℕ) (depth i m : ℕ) (s : Stand) where
     abbrev at : Spot
     at = spot depth i m s.place k s.from
 
-    by_key : {r : Utf8Check} → text_at d k ≡ r → judged d depth i m s ≡ text_then r (value_judged d at s.value)
-    by_key t = ap of-key ke ∙ ap (λ (c : Utf8Check). text_then c (value_judged d at s.value)) t
+    by_key : {r : Result ⊤ ℕ} → text_at d k ≡ r → judged d depth i m s ≡ text_then r (value_judged d at s.value)
+    by_key t = ap of-key ke ∙ ap (λ (c : Result ⊤ ℕ). text_then c (value_judged d at s.value)) t
 
-    module _ (t : text_at d k ≡ Valid) where
+    module _ (t : text_at d k ≡ Ok _) where
       judged-no-value : {f : ℕ} → s.value ≡ refuses f → judged d depth i m s ≡ bad f s.place
       judged-no-value e = by_key t ∙ ap (value_judged d at) e
 
-      by_value : {y : Value} {r : Utf8Check} → s.value ≡ says y → value_text d y ≡ r → judged d depth i m s ≡ text_then r (good (event_of at y) y)
-      by_value {y} e u = by_key t ∙ ap (value_judged d at) e ∙ ap (λ (c : Utf8Check). text_then c (good (event_of at y) y)) u
+      by_value : {y : Value} {r : Result ⊤ ℕ} → s.value ≡ says y → value_text d y ≡ r → judged d depth i m s ≡ text_then r (good (event_of at y) y)
+      by_value {y} e u = by_key t ∙ ap (value_judged d at) e ∙ ap (λ (c : Result ⊤ ℕ). text_then c (good (event_of at y) y)) u
 
 -- ---- what is said of a path among all
 module _ (d : List ℕ) (all : List Item) (x : Item) where
@@ -99,9 +95,9 @@ abbrev Verdict : List ℕ → Item → Type 0
 Verdict d x = Good d x ⊎ ((f : ℕ) × ((p : ℕ) × Wrong d x f p))
 
 module _ (d : List ℕ) (x : Item) (a : Answered d x.stand) (h : length x.path ≤ 100) where
-  module _ (k : Span) (ke : x.stand.key ≡ says k) (t : text_at d k ≡ Valid) where
-    by-text : (y : Value) → x.stand.value ≡ says y → (r : Utf8Check) → value_text d y ≡ r → Verdict d x
-    by-text y e Valid u =
+  module _ (k : Span) (ke : x.stand.key ≡ says k) (t : text_at d k ≡ Ok _) where
+    by-text : (y : Value) → x.stand.value ≡ says y → (r : Result ⊤ ℕ) → value_text d y ≡ r → Verdict d x
+    by-text y e (Ok v) u =
         inl
         record {
           near = h;
@@ -115,7 +111,7 @@ module _ (d : List ℕ) (x : Item) (a : Answered d x.stand) (h : length x.path �
                 value_utf8 = (value-test d y).0 u;
               };
         }
-    by-text y e (Bad p) u =
+    by-text y e (Err p) u =
         inr (9, (p, value-octets p h ke ((text-test.valid d k).0 t) e (value-breaks d y p (λ w z q. a.inside.string (e ∙ ap says q)) u)))
 
     by_said : (y : Said Value) → x.stand.value ≡ y → Verdict d x
@@ -123,9 +119,9 @@ module _ (d : List ℕ) (x : Item) (a : Answered d x.stand) (h : length x.path �
     by_said nothing e = absurd (a.told.value e)
     by_said (refuses n) e = inr (n, (x.stand.place, value-refused h ke ((text-test.valid d k).0 t) e))
 
-  by-key-text : (k : Span) → x.stand.key ≡ says k → (r : Utf8Check) → text_at d k ≡ r → Verdict d x
-  by-key-text k ke Valid t = by_said k ke t x.stand.value refl
-  by-key-text k ke (Bad p) t = inr (9, (p, key-octets p h ke ((text-test.breaks d k p (a.inside.key ke)).0 t)))
+  by-key-text : (k : Span) → x.stand.key ≡ says k → (r : Result ⊤ ℕ) → text_at d k ≡ r → Verdict d x
+  by-key-text k ke (Ok v) t = by_said k ke t x.stand.value refl
+  by-key-text k ke (Err p) t = inr (9, (p, key-octets p h ke ((text-test.breaks d k p (a.inside.key ke)).0 t)))
 
   by-key-said : (k : Said Span) → x.stand.key ≡ k → Verdict d x
   by-key-said (says k) e = by-key-text k e (text_at d k) refl
@@ -140,13 +136,9 @@ verdict d x a = go (ltb 100 (length x.path)) refl
     go false q = by-key-said d x a (ltb-false 100 (length x.path) q) x.stand.key refl
 
 -- ---- a path that leads anywhere is answered
-read-answered : (r : Read) → read_said r ≡ nothing → ⊥
-read-answered (read.Value x) e = let z : ◌≡◌ {A = ℕ} 0 1 = cc in omega arith
-read-answered (read.Refused n) e = let z : ◌≡◌ {A = ℕ} 0 1 = cc in omega arith
-
-part-answered : (p : Part) → part_said p ≡ nothing → ⊥
-part-answered (part.Bytes s) e = let z : ◌≡◌ {A = ℕ} 0 1 = cc in omega arith
-part-answered (part.Refused n) e = let z : ◌≡◌ {A = ℕ} 0 1 = cc in omega arith
+read-answered : {A : Type 0} (r : Result A Refusal) → read_said r ≡ nothing → ⊥
+read-answered (Ok x) e = cc
+read-answered (Err f) e = cc
 
 says-answered : {A : Type 0} (x : A) → says x ≡ nothing → ⊥
 says-answered x e = let z : ◌≡◌ {A = ℕ} 0 1 = cc in omega arith
@@ -155,8 +147,8 @@ module _ (d : List ℕ) where
   entry-answered : (v : View) (i : ℕ) → Told (entry_stand d v i)
   entry-answered v i = record { key = go v.kind.object; value = read-answered (entry_read d v i) }
     where
-      go : (b : Bool) → cond b (part_said (key_read d v i)) (says no_key) ≡ nothing → ⊥
-      go true e = part-answered (key_read d v i) e
+      go : (b : Bool) → cond b (read_said (key_read d v i)) (says no_key) ≡ nothing → ⊥
+      go true e = read-answered (key_read d v i) e
       go false e = says-answered no_key e
 
   below-answered : {s t : Stand} {π : List ℕ} → SaidStands d s.value → Told s → Below d s π t → Told t

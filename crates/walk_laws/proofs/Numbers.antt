@@ -22,14 +22,15 @@ use Rattle.columns.specs.Columns.{type_of as column_type, code_of as column_code
 use Rattle.codes.specs.Types.{type_of, code_of, all as types}
 use Rattle.codes.specs.declared.types.JsonbType.{JsonbType}
 use Rattle.codes.specs.declared.types.JsonbType.TheVariants as type
-use Rattle.codes.specs.declared.types.TypeOf.{TypeOf}
-use Rattle.codes.specs.declared.types.TypeOf.TheVariants as type-of
+use Rattle.std.specs.Prelude.{Result, Ok, Err, ⊤}
+use Rattle.refusal.specs.declared.Refusal.{Refusal}
+use Rattle.refusal.specs.declared.Refusal.TheVariants as refusals
+use Rattle.refusal.specs.Refusals.{number_of}
+use Rattle.length_field.specs.Length.{field_of, length_at}
+use Rattle.length_field.specs.declared.Length.{Length}
 use Rattle.codes.specs.declared.literals.LiteralType.{LiteralType}
 use Rattle.codes.specs.declared.literals.LiteralType.TheVariants as literal
-use Rattle.codes.specs.declared.literals.LiteralOf.{LiteralOf}
-use Rattle.codes.specs.declared.literals.LiteralOf.TheVariants as literal-of
-use Rattle.columns.specs.declared.ColumnOf.{ColumnOf}
-use Rattle.columns.specs.declared.ColumnOf.TheVariants as column-of
+use Rattle.columns.specs.declared.ColumnType.{ColumnType}
 use Rattle.layout.specs.Layout.{offset_size, header_size, offset_at}
 use Rattle.layout.specs.declared.Kind.{Kind}
 use Rattle.value.specs.declared.View.{View}
@@ -39,21 +40,16 @@ use Rattle.value.specs.declared.Scalar.{Scalar}
 use Rattle.value.specs.declared.Scalar.TheVariants as scalar
 use Rattle.value.specs.declared.Value.{Value}
 use Rattle.value.specs.declared.Value.TheVariants as value
-use Rattle.content.specs.Reading.{kind, viewed, container_at, literal_of, literal_at, number_at, parted, part_at, part_of, string_at}
+use Rattle.content.specs.Reading.{kind, viewed, container_at, literal_of, literal_at, number_at, bytes_of, part_at, part_of, string_at, scalar_of}
 use Rattle.content.specs.Reading.{opaque_of, opaque_at, content_at, read_at}
-use Rattle.header.specs.Headers.{header_at, place_fault}
-use Rattle.content.specs.declared.Read.{Read}
-use Rattle.content.specs.declared.Read.TheVariants as read
+use Rattle.header.specs.Headers.{header, header_at, place_of, then}
 use Rattle.header.specs.declared.Header.{Header}
-use Rattle.content.specs.declared.Part.{Part}
-use Rattle.content.proofs.Placed.{no_value}
 use Rattle.entry.specs.Entries.{end_of, is_inlined, place_at, key_place_at, pointed_at, typed_entry, entry_of, entry_at, key_offset, key_length, key_of, key_entry_at}
 use Rattle.entry.specs.Entries.{start_of, typed_start, value_start}
-use Rattle.gate.specs.Said.{Said, says, nothing, refuses, read_said, part_said}
+use Rattle.gate.specs.Said.{Said, says, nothing, refuses, read_said}
 use Rattle.gate.specs.Before.{gated}
 use Rattle.jsonb.specs.Views.{typed_at, root_read, elem_at, key_at}
-use Rattle.events.specs.declared.Walked.{Walked}
-use Rattle.events.specs.declared.Walked.TheVariants.{Stopped}
+use Rattle.events.specs.Walked.{Walked, Stopped}
 use Rattle.events.specs.Events.{no_key}
 use Rattle.paths.specs.Judged.{Stand}
 use Rattle.paths.specs.Paths.{root_stand, child, here, Item, paths}
@@ -95,22 +91,27 @@ pub data StopNumber : List ℕ → ℕ → Type 0 where
   no_room : {π : List ℕ} → StopNumber π 12
 
 -- where something is refused, its number is such
-abbrev ReadNumber : (ℕ → Type 0) → Read → Type 0
-ReadNumber P (read.Value x) = Unit {0}
-ReadNumber P (read.Refused n) = P n
+abbrev ReadNumber : {A : Type 0} → (ℕ → Type 0) → Result A Refusal → Type 0
+ReadNumber P (Ok x) = Unit {0}
+ReadNumber P (Err f) = P (number_of f)
 
 abbrev SaidNumber : {A : Type 0} → (ℕ → Type 0) → Said A → Type 0
 SaidNumber P (says x) = Unit {0}
 SaidNumber P nothing = Unit {0}
 SaidNumber P (refuses n) = P n
 
-more : (P : ℕ → Type 0) → ((n : ℕ) → ContentNumber n → P n) → (r : Read) → ReadNumber ContentNumber r → ReadNumber P r
-more P f (read.Value x) c = tt
-more P f (read.Refused n) c = f n c
+more : (P : ℕ → Type 0) → ((n : ℕ) → ContentNumber n → P n) → (r : Result Value Refusal) → ReadNumber ContentNumber r → ReadNumber P r
+more P f (Ok x) c = tt
+more P f (Err g) c = f (number_of g) c
 
-read-said : (P : ℕ → Type 0) (r : Read) → ReadNumber P r → SaidNumber P (read_said r)
-read-said P (read.Value x) p = tt
-read-said P (read.Refused n) p = p
+read-said : {A : Type 0} (P : ℕ → Type 0) (r : Result A Refusal) → ReadNumber P r → SaidNumber P (read_said r)
+read-said P (Ok x) p = tt
+read-said P (Err g) p = p
+
+-- what comes after an answer is refused as that is, or by itself
+afterwards : {A B : Type 0} (P : ℕ → Type 0) (r : Result A Refusal) (f : A → Result B Refusal) → ReadNumber P r → ((x : A) → ReadNumber P (f x)) → ReadNumber P (then r f)
+afterwards P (Ok x) f p h = h x
+afterwards P (Err g) f p h = p
 
 -- ---- what holds of both branches of a test holds of the whole, and what holds of each that a search may answer holds of its answer
 both : {A : Type 0} (P : A → Type 0) (b : Bool) {x y : A} → P x → P y → P (cond b x y)
@@ -125,11 +126,8 @@ searched P code found none f g (t ∷ ts) n = both P (eqb n (code t)) (f t) (sea
 
 -- ---- the content at a place
 module _ (d : List ℕ) (i e : ℕ) where
-  abbrev Viewed : Kind → Header → Type 0
+  abbrev Viewed : Kind → Result Header Refusal → Type 0
   Viewed k h = ReadNumber ContentNumber (viewed k i h)
-
-  abbrev Parted : JsonbType → (Span → Scalar) → Part → Type 0
-  Parted t make p = ReadNumber ContentNumber (part_of t make p)
 
   container-faults : (k : Kind) → ReadNumber ContentNumber (container_at d k i e)
   unfolding header_at
@@ -146,31 +144,32 @@ module _ (d : List ℕ) (i e : ℕ) where
   unfolding literal_at literal_type
   literal-faults =
       both (ReadNumber ContentNumber) (leb e i) early
-      (searched (λ (l : LiteralOf). ReadNumber ContentNumber (literal_of l)) literal_code literal-of.Known (literal-of.Refused 7) known no-literal literals (get_or d i 0))
-    where
-      known : (t : LiteralType) → ReadNumber ContentNumber (literal_of (literal-of.Known t))
-      known literal.Null = tt
-      known literal.True = tt
-      known literal.False = tt
+      (afterwards ContentNumber (literal_type (get_or d i 0)) _
+      (searched (λ (l : Result LiteralType Refusal). ReadNumber ContentNumber l) literal_code (λ (t : LiteralType). Ok t) (Err refusals.Literal) (λ t. tt) no-literal literals (get_or d i 0)) (λ t. tt))
 
-  part-faults : (t : JsonbType) (make : Span → Scalar) → ReadNumber ContentNumber (part_of t make (part_at d i e))
-  unfolding part_at
-  part-faults t make = go (groups 5 (slice i e d))
+  part-faults : ReadNumber ContentNumber (part_at d i e)
+  unfolding part_at length_at
+  part-faults = afterwards ContentNumber (field_of i (groups 5 (slice i e d))) (bytes_of e) (go (groups 5 (slice i e d))) (λ f. both (ReadNumber ContentNumber) (ltb (e - f.next) f.length) early tt)
     where
-      go : (g : Groups) → ReadNumber ContentNumber (part_of t make (parted i e g))
-      go (got v k) = both (Parted t make) (ltb v 4294967296) (both (Parted t make) (ltb (e - (i + k)) v) early tt) no_length
+      go : (g : Groups) → ReadNumber ContentNumber (field_of i g)
+      go (got v k) = both (ReadNumber ContentNumber) (ltb v 4294967296) tt no_length
       go short = early
       go long = no_length
+
+  string-faults : ReadNumber ContentNumber (string_at d i e)
+  unfolding string_at
+  string-faults = afterwards ContentNumber (part_at d i e) _ part-faults (λ s. tt)
 
 opaque-faults : (d : List ℕ) (i e : ℕ) → ReadNumber ContentNumber (opaque_at d i e)
 unfolding opaque_at column_type
 opaque-faults d i e =
     both (ReadNumber ContentNumber) (leb e i) early
-    (searched (λ (c : ColumnOf). ReadNumber ContentNumber (opaque_of c (part_at d (i + 1) e))) column_code column-of.Known (column-of.Refused 10)
-    (λ t. part-faults d (i + 1) e type.Opaque (scalar.Opaque t)) no-column columns (get_or d i 0))
+    (afterwards ContentNumber (column_type (get_or d i 0)) _
+    (searched (λ (c : Result ColumnType Refusal). ReadNumber ContentNumber c) column_code (λ (t : ColumnType). Ok t) (Err refusals.Column) (λ t. tt) no-column columns (get_or d i 0))
+    (λ t. afterwards ContentNumber (part_at d (i + 1) e) _ (part-faults d (i + 1) e) (λ s. tt)))
 
 content-faults : (d : List ℕ) (t : JsonbType) (i e : ℕ) → ReadNumber ContentNumber (content_at d t i e)
-unfolding content_at string_at
+unfolding content_at
 content-faults d type.SmallObject i e = container-faults d i e (kind true false)
 content-faults d type.LargeObject i e = container-faults d i e (kind true true)
 content-faults d type.SmallArray i e = container-faults d i e (kind false false)
@@ -183,20 +182,21 @@ content-faults d type.Uint32 i e = number-faults d i e type.Uint32 4 _
 content-faults d type.Int64 i e = number-faults d i e type.Int64 8 _
 content-faults d type.Uint64 i e = number-faults d i e type.Uint64 8 _
 content-faults d type.Double i e = number-faults d i e type.Double 8 _
-content-faults d type.String i e = part-faults d i e type.String scalar.String
+content-faults d type.String i e = string-faults d i e
 content-faults d type.Opaque i e = opaque-faults d i e
 
 -- ---- in a document that is not too long
 module _ (d : List ℕ) (h : length d ≤ 16777216) where
-  abbrev Placed : JsonbType → ℕ → ℕ → ℕ → Type 0
-  Placed t i e n = ReadNumber ContentNumber (cond (eqb n 0) (content_at d t i e) (read.Refused n))
+  abbrev Placed : Result ⊤ Refusal → Type 0
+  Placed r = ReadNumber ContentNumber r
+
+  place-faults : (i e : ℕ) → ReadNumber ContentNumber (place_of d i e)
+  unfolding place_of
+  place-faults i e = rw (le-ltb 16777216 (length d) h) (both Placed (ltb (length d) e) early (both Placed (ltb e i) early tt))
 
   read-faults : (t : JsonbType) (i e : ℕ) → ReadNumber ContentNumber (read_at d t i e)
-  unfolding read_at place_fault
-  read-faults t i e =
-      rw (le-ltb 16777216 (length d) h)
-      (both (Placed t i e) (ltb (length d) e) {x = 3} {y = cond (ltb e i) 3 0} early
-      (both (Placed t i e) (ltb e i) {x = 3} {y = 0} early (content-faults d t i e)))
+  unfolding read_at
+  read-faults t i e = afterwards ContentNumber (place_of d i e) (λ _. content_at d t i e) (place-faults i e) (λ _. content-faults d t i e)
 
   -- an element
   module _ (v : View) where
@@ -220,15 +220,17 @@ module _ (d : List ℕ) (h : length d ≤ 16777216) where
     entry-faults : (i : ℕ) → ReadNumber ValueNumber (entry_at d v i)
     unfolding entry_at type_of
     entry-faults i =
-        searched (λ (y : TypeOf). ReadNumber ValueNumber (entry_of d v y (place_at v i + 1))) code_of type-of.Known (type-of.Refused 2)
-        (λ t. typed-faults t (place_at v i + 1)) value-type types (get_or d (place_at v i) 0)
+        afterwards ValueNumber (type_of (get_or d (place_at v i) 0)) _
+        (searched (λ (y : Result JsonbType Refusal). ReadNumber ValueNumber y) code_of (λ (t : JsonbType). Ok t) (Err refusals.Type) (λ t. tt) value-type types (get_or d (place_at v i) 0))
+        (λ t. typed-faults t (place_at v i + 1))
 
   -- the root's type and content
   root-typed-faults : ReadNumber RootNumber (typed_at d (type_of (get_or d 0 0)) 1 (length d))
   unfolding type_of
   root-typed-faults =
-      searched (λ (y : TypeOf). ReadNumber RootNumber (typed_at d y 1 (length d))) code_of type-of.Known (type-of.Refused 2)
-      (λ t. more RootNumber (λ n c. root-content c) (read_at d t 1 (length d)) (read-faults t 1 (length d))) root-type types (get_or d 0 0)
+      afterwards RootNumber (type_of (get_or d 0 0)) _
+      (searched (λ (y : Result JsonbType Refusal). ReadNumber RootNumber y) code_of (λ (t : JsonbType). Ok t) (Err refusals.Type) (λ t. tt) root-type types (get_or d 0 0))
+      (λ t. more RootNumber (λ n c. root-content c) (read_at d t 1 (length d)) (read-faults t 1 (length d)))
 
 root-faults : (d : List ℕ) → ReadNumber RootNumber (root_read d)
 unfolding root_read
@@ -236,8 +238,8 @@ root-faults d = go (ltb 16777216 (length d)) refl
   where
     go : (b : Bool) → ltb 16777216 (length d) ≡ b →
         ReadNumber RootNumber
-        (cond b (read.Refused 1)
-        (cond (eqb (length d) 0) (read.Value (value.Scalar type.Literal scalar.Null)) (typed_at d (type_of (get_or d 0 0)) 1 (length d))))
+        (cond b (Err refusals.Document)
+        (cond (eqb (length d) 0) (Ok (value.Scalar type.Literal scalar.Null)) (typed_at d (type_of (get_or d 0 0)) 1 (length d))))
     go true q = too_long
     go false q = both (ReadNumber RootNumber) (eqb (length d) 0) tt (root-typed-faults d (ltb-false 16777216 (length d) q))
 
@@ -245,8 +247,8 @@ root-faults d = go (ltb 16777216 (length d)) refl
 abbrev Five : Said Span → Type 0
 Five k = SaidNumber (λ f. f ≡ 5) k
 
-abbrev Keyed : Part → Type 0
-Keyed p = Five (part_said p)
+abbrev Keyed : Result Span Refusal → Type 0
+Keyed p = Five (read_said p)
 
 key-faults : (d : List ℕ) (v : View) (i : ℕ) → Keyed (key_entry_at d v i)
 unfolding key_entry_at key_of
@@ -271,8 +273,8 @@ module _ (d : List ℕ) (v : View) (w : Stands d v) (i : ℕ) (h : i < v.count) 
   unfolding key_at
   child-key = go v.kind.object
     where
-      go : (b : Bool) → Five (cond b (gated d v b i (part_said (key_entry_at d v i))) (says no_key))
-      go true = subst Five (sym (passed (part_said (key_entry_at d v i)))) (key-faults d v i)
+      go : (b : Bool) → Five (cond b (gated d v b i (read_said (key_entry_at d v i))) (says no_key))
+      go true = subst Five (sym (passed (read_said (key_entry_at d v i)))) (key-faults d v i)
       go false = tt
 
 -- ---- what is refused at a path
@@ -383,30 +385,30 @@ module _ (d : List ℕ) (v : View) (i : ℕ) where
   abbrev offset : ℕ
   offset = v.start + offset_at d v.kind body (end_of v)
 
-  pointed-past : {x : Value} (t : JsonbType) → pointed_at d v t body ≡ read.Value x → place_at v i < offset
+  pointed-past : {x : Value} (t : JsonbType) → pointed_at d v t body ≡ Ok x → place_at v i < offset
   unfolding pointed_at
   pointed-past {x} t e = go (ltb offset (body + offset_size v.kind)) refl e
     where
       go : (b : Bool) → ltb offset (body + offset_size v.kind) ≡ b →
-          cond b (read.Refused 6) (cond (ltb (end_of v) offset) (read.Refused 6) (read_at d t offset (end_of v))) ≡ read.Value x → place_at v i < offset
-      go true p q = no_value q
+          cond b (Err refusals.Pointer) (cond (ltb (end_of v) offset) (Err refusals.Pointer) (read_at d t offset (end_of v))) ≡ Ok x → place_at v i < offset
+      go true p q = cc
       go false p q = let l = ltb-false offset (body + offset_size v.kind) p in omega arith
 
-  typed-past : {x : Value} (t : JsonbType) → typed_entry d v t body ≡ read.Value x → place_at v i < start_of d v i t
+  typed-past : {x : Value} (t : JsonbType) → typed_entry d v t body ≡ Ok x → place_at v i < start_of d v i t
   unfolding typed_entry start_of
   typed-past {x} t e = go (is_inlined t v.kind.large) e
     where
-      go : (b : Bool) → cond b (read_at d t body (body + offset_size v.kind)) (pointed_at d v t body) ≡ read.Value x → place_at v i < cond b body offset
+      go : (b : Bool) → cond b (read_at d t body (body + offset_size v.kind)) (pointed_at d v t body) ≡ Ok x → place_at v i < cond b body offset
       go true q = omega arith
       go false q = pointed-past t q
 
-  entry_past : {x : Value} (y : TypeOf) → entry_of d v y body ≡ read.Value x → place_at v i < typed_start d v i y
-  entry_past (type-of.Known t) e = typed-past t e
-  entry_past (type-of.Refused n) e = no_value e
+  entry_past : {x : Value} (y : Result JsonbType Refusal) → entry_of d v y body ≡ Ok x → place_at v i < typed_start d v i y
+  entry_past (Ok t) e = typed-past t e
+  entry_past (Err f) e = cc
 
-  said-past : {x : Value} (r : Read) → (r ≡ read.Value x → place_at v i < value_start d v i) → read_said r ≡ says x → place_at v i < value_start d v i
-  said-past (read.Value y) f e = f (ap read.Value (cc))
-  said-past (read.Refused n) f e = let z : ◌≡◌ {A = ℕ} 0 1 = cc in absurd (omega arith)
+  said-past : {x : Value} (r : Result Value Refusal) → (r ≡ Ok x → place_at v i < value_start d v i) → read_said r ≡ says x → place_at v i < value_start d v i
+  said-past (Ok y) f e = f (cc)
+  said-past (Err g) f e = cc
 
   start-past : {x : Value} → read_said (entry_at d v i) ≡ says x → place_at v i < value_start d v i
   unfolding entry_at value_start

@@ -18,10 +18,11 @@ use Rattle.value.specs.declared.Span.{Span}
 use Rattle.value.specs.declared.Scalar.TheVariants as scalar
 use Rattle.value.specs.declared.Value.{Value}
 use Rattle.value.specs.declared.Value.TheVariants as value
-use Rattle.content.specs.declared.Read.TheVariants as read
+use Rattle.std.specs.Prelude.{Ok, Err}
+use Rattle.refusal.specs.declared.Refusal.TheVariants as refusals
 use Rattle.gate.specs.Said.{says, read_said}
 use Rattle.jsonb.specs.Views.{typed_at, root_read}
-use Rattle.events.specs.declared.Walked.TheVariants.{Done, Stopped}
+use Rattle.events.specs.Walked.{Done, Stopped}
 use Rattle.events.specs.Listing.{Listing, end, fault, event}
 use Rattle.events.specs.Lay.{room}
 use Rattle.events.proofs.Room.{room_small}
@@ -80,7 +81,7 @@ unfolding root_read
 root-short d {y} e = go (ltb 16777216 (length d)) refl e
   where
     go : (b : Bool) → ltb 16777216 (length d) ≡ b →
-        read_said (cond b (read.Refused 1) (cond (eqb (length d) 0) (read.Value (value.Scalar type.Literal scalar.Null)) (typed_at d (type_of (get_or d 0 0)) 1 (length d)))) ≡ says y →
+        read_said (cond b (Err refusals.Document) (cond (eqb (length d) 0) (Ok (value.Scalar type.Literal scalar.Null)) (typed_at d (type_of (get_or d 0 0)) 1 (length d)))) ≡ says y →
         length d ≤ 16777216
     go true p q = let z : ◌≡◌ {A = ℕ} 0 1 = cc in absurd (omega arith)
     go false p q = ltb-false 16777216 (length d) p

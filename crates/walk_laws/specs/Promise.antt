@@ -2,11 +2,10 @@
 -- and what is `left` in the lent list. Its meaning is said here without the order of any computing: which paths there are, which can be read, when a walk
 -- of them succeeds and what it then leaves, and where it stops otherwise. The statements stand at the end; proofs/Theorem.antt proves them together.
 -- Assumes nothing.
-use Rattle.std.specs.Prelude.{ℕ, zero, suc, ◌+◌, ◌*◌, ◌-◌, ◌≤◌, ◌<◌, ◌≡◌, cond, ◌↔◌, ◌⊎◌, eqb, length, get_or, take, drop}
+use Rattle.std.specs.Prelude.{ℕ, zero, suc, ◌+◌, ◌*◌, ◌-◌, ◌≤◌, ◌<◌, ◌≡◌, cond, ◌↔◌, ◌⊎◌, eqb, length, get_or, take, drop, Ok, Err}
 use mathlib.Core.List.{List, [], ◌∷◌, ◌++◌, map, Memᴰ}
 use Rattle.std.proofs.Math.Seq.{slice}
 use Rattle.rfc3629.specs.Grammar.{Utf8, Begins, Unfinished}
-use Rattle.utf8.specs.declared.Utf8Check.TheVariants.{Valid, Bad}
 use Rattle.codes.specs.declared.types.JsonbType.{JsonbType}
 use Rattle.codes.specs.declared.types.JsonbType.TheVariants as type
 use Rattle.value.specs.declared.Span.{Span}
@@ -16,8 +15,7 @@ use Rattle.value.specs.declared.Value.{Value}
 use Rattle.value.specs.declared.Value.TheVariants as value
 use Rattle.gate.specs.Said.{Said, says, nothing, refuses}
 use Rattle.events.specs.declared.Event.{Event}
-use Rattle.events.specs.declared.Walked.{Walked}
-use Rattle.events.specs.declared.Walked.TheVariants.{Done, Stopped}
+use Rattle.events.specs.Walked.{Walked, Done, Stopped}
 use Rattle.events.specs.Events.{no_key, event_of, numbers, wide}
 use Rattle.events.specs.Text.{bytes, text_at}
 use Rattle.paths.specs.Judged.{Stand, spot}
@@ -267,8 +265,8 @@ OneAnswer = (d out : List ℕ) (r q : Walked) (left rest : List ℕ) → Walks d
 
 -- the test of text is RFC 3629's grammar, and of a part of the document it tells the place at which that breaks
 pub record TextTest : Type 0 where
-  pub valid : (d : List ℕ) (s : Span) → (text_at d s ≡ Valid) ↔ IsUtf8 d s
-  pub breaks : (d : List ℕ) (s : Span) (p : ℕ) → s.start + s.len ≤ length d → (text_at d s ≡ Bad p) ↔ BreaksAt d s p
+  pub valid : (d : List ℕ) (s : Span) → (text_at d s ≡ Ok _) ↔ IsUtf8 d s
+  pub breaks : (d : List ℕ) (s : Span) (p : ℕ) → s.start + s.len ≤ length d → (text_at d s ≡ Err p) ↔ BreaksAt d s p
 
 -- the keys and strings that paths lead to are such parts: they lie in the document
 pub record TextInside (d : List ℕ) (s : Stand) : Type 0 where

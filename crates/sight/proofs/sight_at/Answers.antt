@@ -16,7 +16,7 @@ returns-then-is_inlined c =
     let q = c.in_ok-new.ensures.placed in
     let l = ap length q.0 in
     let w : Within (length c.args.doc.now) c.saturating_add-next.result (c.args.start + c.args.size) =
-        record { order = omega (arith, c.in_ok-new.field-0.ordered, q.1, q.2); inside = omega (arith, c.in_ok-new.field-0.inside, l, q.2); short = omega (arith, c.in_ok-new.field-0.short, l) } in
+    record { order = omega (arith, c.in_ok-new.field-0.ordered, q.1, q.2); inside = omega (arith, c.in_ok-new.field-0.inside, l, q.2); short = omega (arith, c.in_ok-new.field-0.short, l) } in
     c.shown.ensures
     ∙ in-entry c.args.doc.now c.args.large c.args.start c.args.size c.args.place c.offset_size.ensures.value c.saturating_add-next.ensures (omega arith) w
     (sym c.try_from.ensures ∙ c.in_ok-t.was) (sym c.is_inlined.ensures ∙ c.if-is_inlined.true)
@@ -26,7 +26,7 @@ returns c =
     let q = c.in_ok-new.ensures.placed in
     let l = ap length q.0 in
     let w : Within (length c.args.doc.now) c.saturating_add-next.result (c.args.start + c.args.size) =
-        record { order = omega (arith, c.in_ok-new.field-0.ordered, q.1, q.2); inside = omega (arith, c.in_ok-new.field-0.inside, l, q.2); short = omega (arith, c.in_ok-new.field-0.short, l) } in
+    record { order = omega (arith, c.in_ok-new.field-0.ordered, q.1, q.2); inside = omega (arith, c.in_ok-new.field-0.inside, l, q.2); short = omega (arith, c.in_ok-new.field-0.short, l) } in
     c.shown-2.ensures
     ∙ pointed-right c.args.doc.now c.args.large c.args.start c.args.size c.args.place c.offset_size.ensures.value c.saturating_add-next.ensures (omega arith) w
     (sym c.try_from.ensures ∙ c.in_ok-t.was) (sym c.is_inlined.ensures ∙ c.if-is_inlined.false) c.offset.ensures c.if-at-next.false c.if-end-at.false

@@ -40,9 +40,13 @@ walk_array-returns-in_err-leads-clause-listed t c =
 pub walk_array-walk_below-requires : goal.walk_array-walk_below-requires
 walk_array-walk_below-requires t c =
     let e : Entry = record { view = c.args.view; position = c.loop-position.position; depth = 101 - c.args.levels; parent = c.args.from - 1 } in
-    let u = c.in_ok-leads.ensures.leads ∙ leads-same c.args.doc.now e c.loop-position.out c.loop-position.n in
-    (omega arith, ((omega arith, entry-fits c.args.doc.now c.args.view c.loop-position.position u),
-    (c.in_ok-leads.ensures.last, c.requires.last.1 ∙ room-same _ _ (sym (c.list_element.auto.out ∙ c.loop-position.invariant.going.same)))))
+    let u = c.in_ok-leads.ensures.leads ∙ leads-same c.args.doc.now e c.loop-position.out c.loop-position.n in (
+      omega arith,
+      (
+        (omega arith, entry-fits c.args.doc.now c.args.view c.loop-position.position u),
+        (c.in_ok-leads.ensures.last, c.requires.last.1 ∙ room-same _ _ (sym (c.list_element.auto.out ∙ c.loop-position.invariant.going.same))),
+      ),
+    )
 
 pub walk_array-returns-in_err-n-clause-listed : goal.walk_array-returns-in_err-n-clause-listed
 walk_array-returns-in_err-n-clause-listed t c =
@@ -97,9 +101,13 @@ walk_object-returns-in_err-leads-clause-listed t c =
 pub walk_object-walk_below-requires : goal.walk_object-walk_below-requires
 walk_object-walk_below-requires t c =
     let e : Entry = record { view = c.args.view; position = c.loop-position.position; depth = 101 - c.args.levels; parent = c.args.from - 1 } in
-    let u = c.in_ok-leads.ensures.leads ∙ leads-same c.args.doc.now e c.loop-position.out c.loop-position.n in
-    (omega arith, ((omega arith, entry-fits c.args.doc.now c.args.view c.loop-position.position u),
-    (c.in_ok-leads.ensures.last, c.requires.last.1 ∙ room-same _ _ (sym (c.list_member.auto.out ∙ c.loop-position.invariant.going.same)))))
+    let u = c.in_ok-leads.ensures.leads ∙ leads-same c.args.doc.now e c.loop-position.out c.loop-position.n in (
+      omega arith,
+      (
+        (omega arith, entry-fits c.args.doc.now c.args.view c.loop-position.position u),
+        (c.in_ok-leads.ensures.last, c.requires.last.1 ∙ room-same _ _ (sym (c.list_member.auto.out ∙ c.loop-position.invariant.going.same))),
+      ),
+    )
 
 pub walk_object-returns-in_err-n-clause-listed : goal.walk_object-returns-in_err-n-clause-listed
 walk_object-returns-in_err-n-clause-listed t c =
