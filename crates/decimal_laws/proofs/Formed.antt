@@ -142,12 +142,12 @@ module _ (i f : ℕ) (gs : List ℕ) (n : length gs ≡ 9) where
         finished-holds (λ d. is_well d ≡ true) nought-formed keep i f neg gs (λ a. formed-of neg i f gs (well-of i f gs a l m w))
         (λ z a b c. formed-of neg (left i z) f (later z gs) (later-formed z a b c))
 
-module _ (bs : List ℕ) (p s : ℕ) (keep : Bool) (d : Decimal) (e : read_bin bs p s keep ≡ Ok d) where
-  pub read-nine : length d.groups ≡ 9
-  read-nine = let w = was_read bs p s keep d e in rw w.is (finished-nine (p - s) s (groups_at bs p s) (length-tab 9 _) keep (negative bs))
+module _ (bs : List ℕ) (p s : ℕ) (keep : Bool) where
+  pub read-nine : (d : Decimal) → read_bin bs p s keep ≡ Ok d → length d.groups ≡ 9
+  read-nine d e = let w = was_read bs p s keep d e in rw w.is (finished-nine (p - s) s (groups_at bs p s) (length-tab 9 _) keep (negative bs))
 
-  pub read-formed : Below 256 bs → is_well d ≡ true
-  read-formed h =
+  pub read-formed : Below 256 bs → (d : Decimal) → read_bin bs p s keep ≡ Ok d → is_well d ≡ true
+  read-formed h d e =
       let F = form_at bs in
       let ds = digits_in F bs in
       let w = was_read bs p s keep d e in
@@ -163,11 +163,11 @@ packed-nine [] keep d e = absurd (cc)
 packed-nine (p ∷ []) keep d e = absurd (cc)
 packed-nine (p ∷ s ∷ bs) keep d e = read-nine bs p s keep d e
 
-pub packed-formed : (bs : List ℕ) (keep : Bool) (d : Decimal) → read_packed bs keep ≡ Ok d → Below 256 bs → is_well d ≡ true
+pub packed-formed : (bs : List ℕ) (keep : Bool) → Below 256 bs → (d : Decimal) → read_packed bs keep ≡ Ok d → is_well d ≡ true
 unfolding read_packed
-packed-formed [] keep d e h = absurd (cc)
-packed-formed (p ∷ []) keep d e h = absurd (cc)
-packed-formed (p ∷ s ∷ bs) keep d e h = read-formed bs p s keep d e (λ k. h (suc (suc k)))
+packed-formed [] keep h d e = absurd (cc)
+packed-formed (p ∷ []) keep h d e = absurd (cc)
+packed-formed (p ∷ s ∷ bs) keep h d e = read-formed bs p s keep (λ k. h (suc (suc k))) d e
 
 -- ---- a numeral that was read has a digit, and as many as it counts
 abbrev pub Counts : Numeral → Type 0

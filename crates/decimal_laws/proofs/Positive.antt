@@ -40,11 +40,11 @@ use Rattle.decimal_laws.proofs.RoundTrip.{was_read, kept, well-of, groups_at, by
 use Rattle.decimal_laws.proofs.Zero.{zero_bytes, zero-written, negative-zero}
 
 -- ---- a zero that is answered
-pub read-zero : (bs : List ℕ) (p s : ℕ) (keep : Bool) (d : Decimal) → read_bin bs p s keep ≡ Ok d → Below 256 bs → is_nought d.groups ≡ true → d.sign ≡ false
-read-zero bs p s keep d e h z = formed-zero _ _ _ _ (read-formed bs p s keep d e h) z
+pub read-zero : (bs : List ℕ) (p s : ℕ) (keep : Bool) → Below 256 bs → (d : Decimal) → read_bin bs p s keep ≡ Ok d → is_nought d.groups ≡ true → d.sign ≡ false
+read-zero bs p s keep h d e z = formed-zero _ _ _ _ (read-formed bs p s keep h d e) z
 
-pub packed_zero : (bs : List ℕ) (keep : Bool) (d : Decimal) → read_packed bs keep ≡ Ok d → Below 256 bs → is_nought d.groups ≡ true → d.sign ≡ false
-packed_zero bs keep d e h z = formed-zero _ _ _ _ (packed-formed bs keep d e h) z
+pub packed_zero : (bs : List ℕ) (keep : Bool) → Below 256 bs → (d : Decimal) → read_packed bs keep ≡ Ok d → is_nought d.groups ≡ true → d.sign ≡ false
+packed_zero bs keep h d e z = formed-zero _ _ _ _ (packed-formed bs keep h d e) z
 
 pub parse-zero : (bs : List ℕ) (d : Decimal) → parse_text bs ≡ Ok d → is_nought d.groups ≡ true → d.sign ≡ false
 parse-zero bs d e z = formed-zero _ _ _ _ (parse-formed bs d e) z
@@ -66,9 +66,9 @@ value-sign d n w =
 pub same_sign : (bs : List ℕ) (p s : ℕ) (d e : Decimal) → Below 256 bs → read_bin bs p s false ≡ Ok d → read_bin bs p s true ≡ Ok e → d.sign ≡ e.sign
 same_sign bs p s d e h a b =
     let v : value d ≡ value e = cc (same-value bs p s, ap valued a, ap valued b) in
-    value-sign d (read-nine bs p s false d a) (read-formed bs p s false d a h)
+    value-sign d (read-nine bs p s false d a) (read-formed bs p s false h d a)
     ∙ ap (λ (v : ℤ). lt_z v (pos 0)) v
-    ∙ sym (value-sign e (read-nine bs p s true e b) (read-formed bs p s true e b h))
+    ∙ sym (value-sign e (read-nine bs p s true e b) (read-formed bs p s true h e b))
 
 but-zero : (neg t : Bool) → both neg (not t) ≡ both neg (not (both neg t))
 but-zero true t = refl

@@ -4,6 +4,7 @@
 #![tactic(auto)]
 
 ghost use Rattle.std.specs.Prelude.{◌≡◌};
+ghost use Rattle.events.specs.Walked.{walked};
 ghost use Rattle.gate.specs.Said.{read_said, said};
 ghost use Rattle.lent.specs.Layout.{low, Relays};
 ghost use Rattle.refusal.specs.Told.{told_by};
@@ -51,7 +52,7 @@ fn low(n: usize) -> u32
 // How a walk ended: two numbers, of a refusal too.
 #[tactic(auto, unfolding(lent::specs::Layout::returned, lent::specs::Layout::remains, lent::specs::Layout::laid))]
 pub fn put_walked(answer: &mut [u32], w: Result<usize, Stopped>) -> u32
-    ensures { Relays 2 (walked_told w) answer.old result answer.new }
+    ensures { Relays 2 (walked_told (walked w)) answer.old result answer.new }
 {
     if answer.len() < 2 {
         return u32::from(Refusal::Room.number());

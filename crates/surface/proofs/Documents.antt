@@ -9,11 +9,10 @@ use lib.ListN.{length}
 use borrow.Author.Tests.{lt-ltb, le-ltb}
 use Rattle.refusal.specs.Told.{Told, answer}
 use Rattle.layout.proofs.Cond.{yes, no}
-use Rattle.header.specs.Headers.{place_fault, header_read}
+use Rattle.header.specs.Headers.{place_of, header_read}
 use Rattle.gate.specs.Said.{Said, refuses}
 use Rattle.gate.specs.Before.{matches, gated}
-use Rattle.events.specs.declared.Walked.{Walked}
-use Rattle.events.specs.declared.Walked.TheVariants.{Done, Stopped}
+use Rattle.events.specs.Walked.{Walked, Done, Stopped}
 use Rattle.events.specs.Lay.{room}
 use Rattle.paths.specs.Shown.{Walks, told, shown}
 use Rattle.paths.proofs.Laid.{walked as Walked-as, walked-told}
@@ -37,7 +36,7 @@ module _ (c start size count : ℕ) where
 
 -- one of no kind is refused by 13 in every document within the limit, whatever is asked
 pub nowhere-matches : (d : List ℕ) → length d ≤ 16777216 → matches d nowhere ≡ false
-unfolding matches header_read place_fault
+unfolding matches header_read place_of
 nowhere-matches d h = rw (le-ltb 16777216 (length d) h, le-ltb (length d) (length d) (omega arith), lt-ltb (length d) 4294967295 (omega arith))
 
 pub nowhere-13 : {A : Type 0} (d : List ℕ) (asked : Bool) (i : ℕ) (x : Said A) → length d ≤ 16777216 → gated d nowhere asked i x ≡ refuses 13

@@ -7,14 +7,14 @@ use mathlib.Core.List.{List, [], ◌∷◌}
 use Prim.Native.Nat.{ℕ, zero, suc, ◌+◌, ◌*◌, ◌/◌, ◌≤◌, ◌<◌}
 use native.Mathlib.Nat.{min-le_left}
 use native.Mathlib.Omega.{arith}
-use lib.Dec.{leb, ltb, eqb}
+use lib.Dec.{leb, ltb}
 use lib.ListN.{length, get_or}
+use Rattle.std.specs.Prelude.{Result, Ok, Err}
+use Rattle.refusal.specs.declared.Refusal.{Refusal}
 use Rattle.refusal.specs.Told.{Told, answer, refusal}
 use Rattle.groups.specs.Numbers.{both}
 use Rattle.groups.specs.Layout.{width, digits_at, form_of, wide_of, offset}
 use Rattle.groups.specs.Write.{told, digits_ok, well_groups, well_formed, written, room_told, write_told, write_leaves}
-use Rattle.groups.specs.declared.Counted.{Counted}
-use Rattle.groups.specs.declared.Counted.TheVariants.{Bytes, Refused}
 use Rattle.groups.proofs.Accept.{well-digits}
 use Rattle.groups.proofs.Sign.{formed-groups}
 use Rattle.groups.proofs.Store.{length-written}
@@ -22,7 +22,6 @@ use Rattle.decimal.specs.Write.{is_well, write_bin, bin_leaves}
 use Rattle.decimal.specs.Text.{printed, print_told, print_leaves}
 use Rattle.decimal.specs.Value.{compare_told}
 use Rattle.decimal.specs.declared.Decimal.{Decimal}
-use Rattle.decimal.specs.declared.Answer.{Answer}
 use Rattle.decimal_laws.proofs.Lengths.{printed-length}
 use Rattle.lent.specs.Layout.{low}
 use Rattle.lent.proofs.Puts.{low_small, changed}
@@ -38,18 +37,21 @@ numbers-whole d w =
     ∙ ap (λ (n : ℕ). d.intg ∷ n ∷ cond d.sign 1 0 ∷ d.groups) (low_small d.frac (omega arith))
 
 -- b is what the contract tells, and a what the callee gives
-pub answer-told : {a b : Answer} → a ≡ b → is_well b.decimal ≡ true → record_told a ≡ decimal_told b
+pub answer-told : {a b : Result Decimal Refusal} → a ≡ b → ((d : Decimal) → b ≡ Ok d → is_well d ≡ true) → record_told a ≡ decimal_told b
 unfolding record_told decimal_told
-answer-told {a} {b} e w =
-    ap record_told e ∙ ap (λ (ns : List ℕ). cond (eqb b.refusal 0) (answer ns) (refusal b.refusal)) (numbers-whole b.decimal w)
+answer-told {a} {b} e w = ap record_told e ∙ go b w
+  where
+    go : (r : Result Decimal Refusal) → ((d : Decimal) → r ≡ Ok d → is_well d ≡ true) → record_told r ≡ decimal_told r
+    go (Ok d) w = ap answer (numbers-whole d (w d refl))
+    go (Err r) w = refl
 
 -- ---- counts
-count-whole : (bs out : List ℕ) (b : Bool) → (b ≡ true → length bs < 4294967296) → (c : Counted) → told c ≡ cond b (room_told bs out) (refusal 26) →
+count-whole : (bs out : List ℕ) (b : Bool) → (b ≡ true → length bs < 4294967296) → (c : Result ℕ Refusal) → told c ≡ cond b (room_told bs out) (refusal 26) →
     counted_told c ≡ told c
 unfolding room_told
-count-whole bs out b h (Refused n) e = refl
-count-whole bs out false h (Bytes n) e = let z : ◌≡◌ {A = ℕ} 0 26 = ap (λ (t : Told). t.number) e in absurd (omega arith)
-count-whole bs out true h (Bytes n) e = ap (λ (m : ℕ). answer (m ∷ [])) (low_small n (go (leb (length bs) (length out)) e))
+count-whole bs out b h (Err r) e = refl
+count-whole bs out false h (Ok n) e = let z : ◌≡◌ {A = ℕ} 0 26 = ap (λ (t : Told). t.number) e in absurd (omega arith)
+count-whole bs out true h (Ok n) e = ap (λ (m : ℕ). answer (m ∷ [])) (low_small n (go (leb (length bs) (length out)) e))
   where
     go : (b : Bool) → answer (n ∷ []) ≡ cond b (answer (length bs ∷ [])) (refusal 25) → n < 4294967296
     go true q = let z : n ≡ length bs = ap (λ (t : Told). get_or t.values 0 0) q in omega (arith, h refl)
@@ -66,7 +68,7 @@ unfolding offset
 offset-four neg i f zero = omega arith
 offset-four neg i f (suc k) = omega (arith, offset-four neg i f k, wide-four neg (digits_at i f k))
 
-module _ (d : Decimal) (out : List ℕ) (c : Counted) where
+module _ (d : Decimal) (out : List ℕ) (c : Result ℕ Refusal) where
   printed-whole : told c ≡ print_told d out → counted_told c ≡ told c
   unfolding print_told
   printed-whole e = count-whole (printed d) out (is_well d) (λ w. omega (arith, printed-length d w)) c e
@@ -92,12 +94,12 @@ no-digits = refl
 
 -- d is the decimal as the callee gives it
 module _ (xs bytes : List ℕ) {d : Decimal} (e : d ≡ decimal_by xs) where
-  pub written-told : (c : Counted) → told c ≡ write_bin d bytes → counted_told c ≡ written_told xs bytes
+  pub written-told : (c : Result ℕ Refusal) → told c ≡ write_bin d bytes → counted_told c ≡ written_told xs bytes
   unfolding written_told write_told
   written-told c q =
       written-whole d bytes c q ∙ q ∙ ap (λ (x : Decimal). write_bin x bytes) e ∙ held_by xs (refusal 26) (λ x. write_bin x bytes) (rw no-digits)
 
-  pub printed-told : (c : Counted) → told c ≡ print_told d bytes → counted_told c ≡ printed_told xs bytes
+  pub printed-told : (c : Result ℕ Refusal) → told c ≡ print_told d bytes → counted_told c ≡ printed_told xs bytes
   unfolding printed_told print_told
   printed-told c q =
       printed-whole d bytes c q ∙ q ∙ ap (λ (x : Decimal). print_told x bytes) e ∙ held_by xs (refusal 26) (λ x. print_told x bytes) (rw no-digits)
