@@ -2,6 +2,8 @@
 // request.
 #![tactic(auto)]
 
+ghost use Rattle.std.specs.Prelude.{◌≤◌, IfOk};
+
 use std::io;
 use std::str::Split;
 
@@ -42,7 +44,9 @@ impl<'a> Asked<'a> {
     }
 
     // A number that is no greater than another.
-    pub fn number_to(&mut self, most: u32) -> Result<u32, Fault> {
+    pub fn number_to(&mut self, most: u32) -> Result<u32, Fault>
+        ensures { IfOk result (λ n. n ≤ most) }
+    {
         let n = self.number()?;
         if most < n {
             return Err(Fault::NoRequest);

@@ -37,3 +37,8 @@ characters bs = flat_map encode_utf8 bs
 abbrev pub kept_word : Bool → List ℕ
 kept_word true = codes "kept"
 kept_word false = codes "touched"
+
+-- how many bytes were written: none on a refusal
+abbrev pub written_len : Result ℕ Refusal → ℕ
+written_len (Ok n) = n
+written_len (Err r) = 0

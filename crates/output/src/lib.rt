@@ -2,8 +2,9 @@
 // room.
 #![tactic(auto)]
 
-ghost use Rattle.std.specs.Prelude.{◌≡◌, ◌≤◌, length};
-ghost use Rattle.output.specs.Words.{kept_word};
+ghost use Rattle.std.specs.Prelude.{◌≡◌, ◌≤◌, ◌==◌, length, take, drop, min, MatchResult, IsOkAnd, Err};
+ghost use Rattle.std.specs.List.{list_all};
+ghost use Rattle.output.specs.Words.{kept_word, written_len};
 
 use refusal::Refusal;
 use std::fmt::{Display, Formatter};
@@ -179,16 +180,27 @@ impl Written {
         Written { room, len }
     }
 
-    pub fn bytes(&self) -> Result<&[u8], Refusal> {
+    // What was written, or the refusal.
+    pub fn bytes(&self) -> Result<&[u8], Refusal>
+        ensures { MatchResult self.now.len (λ n. IsOkAnd result (λ b. b.now ≡ take n self.now.room)) (λ r. result ≡ Err r) }
+    {
         let n = self.len?;
         Ok(&self.room[..n.min(ROOM)])
     }
 
     // Whether every byte behind the written ones is as it was.
-    pub fn is_kept(&self) -> bool {
+    pub fn is_kept(&self) -> bool
+        ensures { result ≡ list_all (λ b. b == 165) (drop (min (written_len self.now.len) 128) self.now.room) }
+    {
         let n = self.len.unwrap_or(0);
-        self.room.iter().skip(n).all(|b| *b == FILL)
+        is_filled(&self.room[n.min(ROOM)..])
     }
+}
+
+fn is_filled(room: &[u8]) -> bool
+    ensures { result ≡ list_all (λ b. b == 165) room.now }
+{
+    room.iter().all(|b| *b == FILL)
 }
 
 pub fn kept(is_kept: bool) -> &'static str
