@@ -1,28 +1,25 @@
 -- What the check of a part's bytes says of the part.
 -- Assumes nothing.
 use mathlib.Core.Path.{◌≡◌, refl, sym, ap, ◌∙◌}
-use mathlib.Core.Bool.{Bool, true, false, cond}
+use mathlib.Core.Bool.{Bool, cond}
 use mathlib.Core.List.{List}
 use Prim.Native.Nat.{ℕ, ◌+◌, ◌-◌, ◌≤◌, ◌<◌}
 use native.Mathlib.Omega.{arith}
-use lib.Dec.{ltb}
 use lib.ListN.{length, take, drop, length-take, length-drop}
 use borrow.Author.Tests.{le-ltb, lt-ltb}
 use Rattle.std.specs.Prelude.{Result, Ok, Err, ⊤}
 use Rattle.rfc3629.specs.Machine.{Verdict, ok, bad, run, verdict, verdict_from, plus}
 use Rattle.rfc3629.proofs.Counted.{counted}
-use Rattle.utf8.specs.Answer.{Tells, answer as check_answer, checked}
-use Rattle.utf8.specs.declared.Utf8Check.{Utf8Check}
-use Rattle.utf8.specs.declared.Utf8Check.TheVariants.{Valid, Bad}
+use Rattle.utf8.specs.Answer.{Check, Tells, answer as check_answer, bad_at, checked}
 use Rattle.utf8.proofs.Answers.{breaks-within}
 use Rattle.value.specs.declared.Span.{Span}
 use Rattle.events.specs.Events.{no_key}
 use Rattle.events.specs.Text.{bytes, answer, text_at}
 
 -- the answer of bytes that start at a place, by that of their check
-abbrev from_check : ℕ → Utf8Check → Result ⊤ ℕ
-from_check start Valid = Ok _
-from_check start (Bad p) = Err (start + p)
+abbrev from_check : ℕ → Check → Result ⊤ ℕ
+from_check start (Ok u) = Ok _
+from_check start (Err e) = Err (start + e.place)
 
 module _ (d : List ℕ) (s : Span) where
   abbrev end : ℕ
@@ -32,7 +29,7 @@ module _ (d : List ℕ) (s : Span) where
   unfolding text_at
   outside h = ap (λ (b : Bool). cond b (Err s.start) (answer (verdict_from s.start (bytes d s)))) (sym (lt-ltb (length d) end h))
 
-  module _ (h : end ≤ length d) {r : Utf8Check} (re : r ≡ checked (take (end - s.start) (drop s.start d))) where
+  module _ (h : end ≤ length d) {r : Check} (re : r ≡ checked (take (end - s.start) (drop s.start d))) where
     pub inside : from_check s.start r ≡ text_at d s
     unfolding text_at
     inside =
@@ -47,7 +44,7 @@ module _ (d : List ℕ) (s : Span) where
         by (bad p) = refl
 
 -- a break of bytes is no further than they are long
-pub near : (bs : List ℕ) (p : ℕ) {r : Utf8Check} → r ≡ Bad p → Tells bs r → p ≤ length bs
+pub near : (bs : List ℕ) (p : ℕ) {r : Check} → r ≡ bad_at p → Tells bs r → p ≤ length bs
 near bs p q t = breaks-within ((t.broken p).0 q)
 
 pub length_taken : (n i : ℕ) (d : List ℕ) → length (take n (drop i d)) ≤ length d
