@@ -1,60 +1,22 @@
--- The laws of words: a number of bytes in two parts, the top bits under a mask, and the zeros at its end. A word's top bits are clear up to
--- its first byte that is not ASCII, so as many bytes are ASCII as lie wholly below its first top bit that is set.
+-- The top bits of a word, and the zeros at its end. A word's top bits are clear up to its first byte that is not ASCII, so as many bytes are ASCII as lie
+-- wholly below its first top bit that is set.
 -- Assumes nothing.
-use Prim.Native.Nat.{ℕ, zero, suc, ◌+◌, ◌*◌, ◌/◌, ◌%◌, ◌^◌, ◌≤◌, ◌<◌}
+use Prim.Native.Nat.{ℕ, zero, suc, ◌+◌, ◌*◌, ◌/◌, ◌%◌, ◌^◌, ◌≤◌, ◌<◌, min}
 use mathlib.Core.Path.{◌≡◌, refl, sym, ap, ◌∙◌, subst}
-use mathlib.Core.List.{List, [], ◌∷◌, ◌++◌}
-use native.Mathlib.Nat.{mul_assoc, mul_comm, pow-suc}
+use mathlib.Core.List.{List, [], ◌∷◌}
+use native.Mathlib.Nat.{mul_assoc, pow-suc}
 use native.Mathlib.Omega.{arith}
-use lib.Bits.{bit_and, and_block, and_high}
+use lib.Bits.{bit_and, bit_or, and_block, and_high, and_zero_l, or_zero_l}
 use lib.Count.{under, count_trailing_zeros, trailing_of_zero}
-use lib.Dec.{ltb, eqb}
-use lib.ListN.{length, get_or, take, drop, replicate, length-drop}
-use lib.Seq.{take-add, drop-cons, drop-drop, length-take-le}
-use borrow.Author.Tests.{ltb-true, ltb-false, leb-true, leb-false, eqb-true, eq-eqb}
-use Rattle.ascii.specs.Ascii.{low}
-use Rattle.ascii.specs.Words.{value, le, ascii, past}
-use Rattle.ascii.proofs.Low.{by, same, low-yes, low-no, low-all, low-some}
-
--- ---- two parts
-value-append : (xs ys : List ℕ) → value (xs ++ ys) ≡ value xs + 256 ^ length xs * value ys
-unfolding value
-value-append [] ys = omega arith
-value-append (x ∷ xs) ys =
-    let e : 256 ^ suc (length xs) * value ys ≡ 256 * (256 ^ length xs * value ys) =
-    ap (λ (p : ℕ). p * value ys) (pow-suc 256 (length xs) ∙ mul_comm _ _) ∙ mul_assoc _ _ _ in
-    omega (arith, e, value-append xs ys)
-
--- m + n bytes are m, and n above them
-pub le_split : (m n : ℕ) (s : List ℕ) (i : ℕ) → i + m ≤ length s → le (m + n) s i ≡ le m s i + 256 ^ m * le n s (i + m)
-le_split m n s i h =
-    let l : length (take m (drop i s)) ≡ m = length-take-le m (drop i s) (simp length-drop (omega arith)) in
-    ap value (take-add m n (drop i s))
-    ∙ value-append (take m (drop i s)) (take n (drop m (drop i s)))
-    ∙ ap (λ (k : ℕ). le m s i + 256 ^ k * value (take n (drop m (drop i s)))) l
-    ∙ ap (λ (t : List ℕ). le m s i + 256 ^ m * value (take n t)) (drop-drop m i s)
-
-le-one : (s : List ℕ) (i : ℕ) → i < length s → le 1 s i ≡ get_or s i 0
-unfolding value
-le-one s i h = ap (λ (l : List ℕ). value (take 1 l)) (drop-cons s i 0 h) ∙ omega arith
-
-pub le-two : (s : List ℕ) (i : ℕ) → i + 2 ≤ length s → get_or s i 0 + 256 * get_or s (i + 1) 0 ≡ le 2 s i
-le-two s i h = omega (arith, le_split 1 1 s i (omega arith), le-one s i (omega arith), le-one s (i + 1) (omega arith))
-
--- ---- bytes
-abbrev pub Octets : List ℕ → Type 0
-Octets s = (k : ℕ) → get_or s k 0 < 256
-
-octets-drop : (i : ℕ) (s : List ℕ) → Octets s → Octets (drop i s)
-octets-drop zero s p = p
-octets-drop (suc i) [] p = p
-octets-drop (suc i) (x ∷ s) p = octets-drop i s (λ k. p (suc k))
-
-octets-take : (n : ℕ) (s : List ℕ) → Octets s → Octets (take n s)
-octets-take zero s p k = omega arith
-octets-take (suc n) [] p k = p k
-octets-take (suc n) (x ∷ s) p zero = p 0
-octets-take (suc n) (x ∷ s) p (suc k) = octets-take n s (λ j. p (suc j)) k
+use lib.Dec.{ltb, leb, eqb}
+use lib.ListN.{length, take, drop, replicate, length-drop}
+use lib.Seq.{length-take-le}
+use borrow.Author.Tests.{ltb-true, ltb-false, le-leb, leb-true, eqb-true, eq-eqb}
+use Rattle.std.proofs.lemmas.Nat.{le_or_l, le_or_r}
+use Rattle.raw.specs.Numbers.{value}
+use Rattle.raw.proofs.Values.{Bytes, bytes_take, bytes_drop}
+use Rattle.ascii.specs.Ascii.{low, ascii_end}
+use Rattle.ascii.proofs.Low.{by, same, low-yes, low-no, low_take}
 
 -- ---- the top bits
 abbrev pub mask : ℕ → ℕ
@@ -77,17 +39,20 @@ top_set x h g =
     top_bit x ∙ ap (λ (y : ℕ). y % 2 * 128) w
 
 -- the lowest byte's top bit apart
-top-first : (x : ℕ) (xs : List ℕ) → x < 256 → tops (x ∷ xs) ≡ 256 * tops xs + bit_and x 128
-unfolding value
-top-first x xs h =
-    let v : x + 256 * value xs ≡ value xs * 2 ^ 8 + x = omega arith in
-    let m : 128 + 256 * mask (length xs) ≡ mask (length xs) * 2 ^ 8 + 128 = omega arith in
-    let b : bit_and (x + 256 * value xs) (128 + 256 * mask (length xs)) ≡ tops xs * 2 ^ 8 + bit_and x 128 =
-    rw (v, m) (and_block 8 (value xs) (mask (length xs)) x 128 h (omega arith)) in
+top-step : (x v m : ℕ) → x < 256 → bit_and (x + 256 * v) (128 + 256 * m) ≡ 256 * bit_and v m + bit_and x 128
+top-step x v m h =
+    let e : x + 256 * v ≡ v * 2 ^ 8 + x = omega arith in
+    let f : 128 + 256 * m ≡ m * 2 ^ 8 + 128 = omega arith in
+    let b : bit_and (x + 256 * v) (128 + 256 * m) ≡ bit_and v m * 2 ^ 8 + bit_and x 128 =
+    rw (e, f) (and_block 8 v m x 128 h (omega arith)) in
     omega arith
 
+top-first : (x : ℕ) (xs : List ℕ) → x < 256 → tops (x ∷ xs) ≡ 256 * tops xs + bit_and x 128
+unfolding value
+top-first x xs h = top-step x (value xs) (mask (length xs)) h
+
 -- all clear, where all bytes are ASCII
-all-clear : (xs : List ℕ) → Octets xs → low xs ≡ length xs → tops xs ≡ 0
+all-clear : (xs : List ℕ) → Bytes xs → low xs ≡ length xs → tops xs ≡ 0
 unfolding value low
 all-clear [] p e = refl
 all-clear (x ∷ xs) p e =
@@ -127,7 +92,7 @@ zeros (suc j) k n =
     omega (arith, zeros j k n)
 
 -- as many bytes lie wholly below the first top bit that is set as are ASCII
-low_zeros : (xs : List ℕ) → Octets xs → count_trailing_zeros (8 * length xs) (tops xs) / 8 ≡ low xs
+low_zeros : (xs : List ℕ) → Bytes xs → count_trailing_zeros (8 * length xs) (tops xs) / 8 ≡ low xs
 unfolding value low
 low_zeros [] p = ap (λ (n : ℕ). n / 8) (trailing_of_zero 0)
 low_zeros (x ∷ xs) p =
@@ -152,46 +117,63 @@ low_zeros (x ∷ xs) p =
     ∙ zeros 7 (suc (8 * n)) (tops xs * 2 + 1) in
     omega (arith, z, odd (8 * n) (tops xs)))
 
--- ---- the number of w bytes at a place
-module _ (w : ℕ) (s : List ℕ) (at : ℕ) (p : Octets s) (h : at + w ≤ length s) where
-  word-length : length (take w (drop at s)) ≡ w
-  word-length = length-take-le w (drop at s) (simp length-drop (omega arith))
+-- more top bits than there are bytes
+wider : (n : ℕ) (xs : List ℕ) → Bytes xs → length xs ≤ n → bit_and (value xs) (mask n) ≡ tops xs
+unfolding value
+wider n [] p h = and_zero_l (mask n)
+wider zero (x ∷ xs) p h = absurd (omega arith)
+wider (suc n) (x ∷ xs) p h =
+    top-step x (value xs) (mask n) (p 0)
+    ∙ ap (λ (t : ℕ). 256 * t + bit_and x 128) (wider n xs (λ k. p (suc k)) (omega arith))
+    ∙ sym (top-step x (value xs) (mask (length xs)) (p 0))
 
-  word-octets : Octets (take w (drop at s))
-  word-octets = octets-take w (drop at s) (octets-drop at s p)
+-- ---- the next n bytes at a place
+module _ (n : ℕ) (s : List ℕ) (at : ℕ) (p : Bytes s) (h : at + n ≤ length s) where
+  abbrev next : List ℕ
+  next = take n (drop at s)
 
-  word-zeros : count_trailing_zeros (8 * w) (bit_and (le w s at) (mask w)) / 8 ≡ low (take w (drop at s))
-  word-zeros =
-      subst (λ (n : ℕ). count_trailing_zeros (8 * n) (bit_and (le w s at) (mask n)) / 8 ≡ low (take w (drop at s))) word-length
-      (low_zeros (take w (drop at s)) word-octets)
+  next-length : length next ≡ n
+  next-length = length-take-le n (drop at s) (simp length-drop (omega arith))
 
-  word_test : eqb (bit_and (le w s at) (mask w)) 0 ≡ ascii w s at
-  unfolding ascii
-  word_test =
-      let xs = take w (drop at s) in
-      same (eqb (bit_and (le w s at) (mask w)) 0) (ascii w s at)
-      (λ t.
-      let e = ap (count_trailing_zeros (8 * w)) (eqb-true (bit_and (le w s at) (mask w)) 0 t) ∙ trailing_of_zero (8 * w) in
-      let z = word-zeros in
-      by (ascii w s at) (λ a. a)
-      (λ a.
-      let l = leb-false w (low (drop at s)) a in
-      absurd (omega (arith, low-some w (drop at s) (omega arith)))))
-      (λ t.
-      let l = low-all w (drop at s) (leb-true w (low (drop at s)) t) in
-      let e : bit_and (le w s at) (mask (length xs)) ≡ 0 = all-clear xs word-octets (l ∙ sym word-length) in
-      eq-eqb (bit_and (le w s at) (mask w)) 0 (subst (λ (n : ℕ). bit_and (le w s at) (mask n) ≡ 0) word-length e))
+  next-bytes : Bytes next
+  next-bytes = bytes_take n (drop at s) (bytes_drop at s p)
 
--- with the masks written out
-module _ (s : List ℕ) (at : ℕ) (p : Octets s) where
-  pub half-test : at + 4 ≤ length s → eqb (bit_and (le 4 s at) 2155905152) 0 ≡ ascii 4 s at
+  next-zeros : count_trailing_zeros (8 * n) (bit_and (value next) (mask n)) / 8 ≡ low next
+  next-zeros = subst (λ (m : ℕ). count_trailing_zeros (8 * m) (bit_and (value next) (mask m)) / 8 ≡ low next) next-length (low_zeros next next-bytes)
+
+  pub tops-clear : n ≤ 8 → eqb (bit_and (value next) 9259542123273814144) 0 ≡ leb (at + n) (ascii_end s at)
   unfolding value
-  half-test = word_test 4 s at p
+  tops-clear g =
+      let l = next-length in
+      let w : bit_and (value next) 9259542123273814144 ≡ tops next = wider 8 next next-bytes (omega arith) in
+      let z = low_zeros next next-bytes in
+      let t = low_take n (drop at s) in
+      same (eqb (bit_and (value next) 9259542123273814144) 0) (leb (at + n) (ascii_end s at))
+      (λ e.
+      let c = ap (count_trailing_zeros (8 * length next)) (sym w ∙ eqb-true (bit_and (value next) 9259542123273814144) 0 e) ∙ trailing_of_zero (8 * length next) in
+      le-leb (at + n) (ascii_end s at) (omega arith))
+      (λ e.
+      let b = leb-true (at + n) (ascii_end s at) e in
+      eq-eqb (bit_and (value next) 9259542123273814144) 0 (w ∙ all-clear next next-bytes (omega arith)))
 
-  pub full-test : at + 8 ≤ length s → eqb (bit_and (le 8 s at) 9259542123273814144) 0 ≡ ascii 8 s at
-  unfolding value
-  full-test = word_test 8 s at p
+pub tops-first : (s : List ℕ) (at : ℕ) → Bytes s → at + 8 ≤ length s → at + count_trailing_zeros 64 (bit_and (value (take 8 (drop at s))) 9259542123273814144) / 8 ≡ min (at + 8) (ascii_end s at)
+unfolding value
+tops-first s at p h = omega (arith, next-zeros 8 s at p h, low_take 8 (drop at s))
 
-  pub full-zeros : at + 8 ≤ length s → at + count_trailing_zeros 64 (bit_and (le 8 s at) 9259542123273814144) / 8 ≡ past 8 s at
-  unfolding value past
-  full-zeros h = ap (λ (n : ℕ). at + n) (word-zeros 8 s at p h)
+-- words that are put together are clear where each is
+pub both_clear : (a t i e e' : ℕ) → eqb a 0 ≡ leb i e → eqb t 0 ≡ leb (i + 8) e' → (i ≤ e → e' ≡ e) → eqb (bit_or a t) 0 ≡ leb (i + 8) e
+both_clear a t i e e' p q same_end =
+    let l = le_or_l a t in
+    let r = le_or_r a t in
+    same (eqb (bit_or a t) 0) (leb (i + 8) e)
+    (λ z.
+    let o = eqb-true (bit_or a t) 0 z in
+    let x = leb-true i e (sym p ∙ eq-eqb a 0 (omega arith)) in
+    let y = leb-true (i + 8) e' (sym q ∙ eq-eqb t 0 (omega arith)) in
+    le-leb (i + 8) e (omega (arith, same_end x)))
+    (λ z.
+    let w = leb-true (i + 8) e z in
+    let x : i ≤ e = omega arith in
+    let y = eqb-true a 0 (p ∙ le-leb i e x) in
+    let v = eqb-true t 0 (q ∙ le-leb (i + 8) e' (omega (arith, same_end x))) in
+    eq-eqb (bit_or a t) 0 (ap (λ (n : ℕ). bit_or n t) y ∙ or_zero_l t ∙ v))

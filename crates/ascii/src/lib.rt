@@ -1,242 +1,99 @@
 // How far a text is ASCII: bytes below 128, found in words of eight and blocks of words.
 #![tactic(auto)]
 
-ghost use Rattle.std.specs.Prelude.{◌≡◌, ◌+◌, ◌≤◌, ◌<◌, length, drop};
-ghost use Rattle.ascii.specs.Ascii.{low, ascii_end, front};
-ghost use Rattle.ascii.specs.Words.{le, ascii, past, Behind};
+ghost use Rattle.std.specs.Prelude.{◌≡◌, ◌==◌, ◌+◌, ◌*◌, ◌/◌, ◌≤◌, ◌<◌, min, nat_le, nat_lt, length};
+ghost use Rattle.std.specs.List.{prefix_len};
+ghost use Rattle.std.specs.Int.{w64, trailing_zeros};
+ghost use Rattle.ascii.specs.Ascii.{ascii_end, front};
 
 // The top bits of eight bytes.
 const TOPS: u64 = 0x8080_8080_8080_8080;
 
-// Bytes as a number, lowest first. The compiler makes one load of each reader.
-fn wide(x: u8) -> u64
-    ensures { (result ≡ x) × (result < 256) }
+// The top bits of the next N bytes.
+fn tops<const N: usize>(s: &[u8], at: usize) -> u64
+    requires width { N ≤ 8 }
+    requires all_there { at + N ≤ length s.now }
+    ensures clear { (result == 0) ≡ nat_le (at + N) (ascii_end s.now at) }
+    ensures first { N ≡ 8 → at + trailing_zeros w64 result / 8 ≡ min (at + 8) (ascii_end s.now at) }
 {
-    x as u64
+    raw::whole::<N>(s, at) & TOPS
 }
 
-fn pair_at(s: &[u8], at: usize) -> u64
-    requires { at + 2 ≤ length s.now }
-    ensures { (result ≡ le 2 s.now at) × (result < 65536) }
+// Whether the next W words are all ASCII. They are put together and tested at once, by vectors.
+fn are_ascii<const W: usize>(s: &[u8], at: usize) -> bool
+    requires { at + 8 * W ≤ length s.now }
+    ensures { result ≡ nat_le (at + 8 * W) (ascii_end s.now at) }
 {
-    wide(s[at]) + 256 * wide(s[at + 1])
-}
-
-fn half_at(s: &[u8], at: usize) -> u64
-    requires { at + 4 ≤ length s.now }
-    ensures { (result ≡ le 4 s.now at) × (result < 4294967296) }
-{
-    pair_at(s, at) + 65536 * pair_at(s, at + 2)
-}
-
-fn word_at(s: &[u8], at: usize) -> u64
-    requires { at + 8 ≤ length s.now }
-    ensures { result ≡ le 8 s.now at }
-{
-    half_at(s, at) + 4294967296 * half_at(s, at + 4)
-}
-
-// Whether the next bytes are all ASCII.
-fn ascii4(s: &[u8], at: usize) -> bool
-    requires { at + 4 ≤ length s.now }
-    ensures { result ≡ ascii 4 s.now at }
-{
-    half_at(s, at) & 0x8080_8080 == 0
-}
-
-fn ascii8(s: &[u8], at: usize) -> bool
-    requires { at + 8 ≤ length s.now }
-    ensures { result ≡ ascii 8 s.now at }
-{
-    word_at(s, at) & TOPS == 0
-}
-
-fn ascii16(s: &[u8], at: usize) -> bool
-    requires { at + 16 ≤ length s.now }
-    ensures { result ≡ ascii 16 s.now at }
-{
-    ascii8(s, at) && ascii8(s, at + 8)
-}
-
-fn ascii32(s: &[u8], at: usize) -> bool
-    requires { at + 32 ≤ length s.now }
-    ensures { result ≡ ascii 32 s.now at }
-{
-    ascii16(s, at) && ascii16(s, at + 16)
-}
-
-fn ascii64(s: &[u8], at: usize) -> bool
-    requires { at + 64 ≤ length s.now }
-    ensures { result ≡ ascii 64 s.now at }
-{
-    ascii32(s, at) && ascii32(s, at + 32)
-}
-
-// Past the ASCII among the next bytes.
-fn past8(s: &[u8], at: usize) -> usize
-    requires { at + 8 ≤ length s.now }
-    ensures { result ≡ past 8 s.now at }
-{
-    at + (u64::trailing_zeros(word_at(s, at) & TOPS) / 8) as usize
-}
-
-fn past16(s: &[u8], at: usize) -> usize
-    requires { at + 16 ≤ length s.now }
-    ensures { result ≡ past 16 s.now at }
-{
-    if ascii8(s, at) {
-        return past8(s, at + 8);
+    let mut all = 0;
+    for k in 0..W {
+        all |= tops::<8>(s, at + 8 * k);
     }
-    past8(s, at)
+    all == 0
 }
 
-fn past32(s: &[u8], at: usize) -> usize
-    requires { at + 32 ≤ length s.now }
-    ensures { result ≡ past 32 s.now at }
+// Past the ASCII among the next W words.
+fn past<const W: usize>(s: &[u8], at: usize) -> usize
+    requires { at + 8 * W ≤ length s.now }
+    ensures { result ≡ min (at + 8 * W) (ascii_end s.now at) }
 {
-    if ascii16(s, at) {
-        return past16(s, at + 16);
-    }
-    past16(s, at)
-}
-
-// Past the ASCII, a byte at a time.
-fn bytes_end(s: &[u8], at: usize) -> usize
-    requires { at ≤ length s.now }
-    ensures { result ≡ ascii_end s.now at }
-{
-    let mut i = at;
-    while i < s.len() {
-        if 128 <= s[i] {
-            return i;
+    for k in 0..W {
+        let word = tops::<8>(s, at + 8 * k);
+        if word != 0 {
+            return at + 8 * k + word.trailing_zeros() as usize / 8;
         }
-        i += 1;
     }
-    i
+    at + 8 * W
 }
 
-// The place of the first byte that is not ASCII, where one is among the next bytes. The last word is read from one byte before: the compiler would
-// keep a word that was tested for this, and a test takes two instructions where the word is not kept, and three where it is.
-fn among8(s: &[u8], at: usize) -> usize
-    requires at_in_bounds { (at + 8 ≤ length s.now) × (low (drop at s.now) < 8) }
-    requires behind { Behind s.now at }
-    ensures { result ≡ ascii_end s.now at }
+// How many bytes at the front are ASCII, one by one.
+fn leading(s: &[u8]) -> usize
+    ensures value { result ≡ prefix_len (λ b. nat_lt b 128) s.now }
+    ensures within { result ≤ length s.now }
 {
-    past8(s, at - 1)
+    s.iter().take_while(|b| **b < 128).count()
 }
 
-fn among16(s: &[u8], at: usize) -> usize
-    requires at_in_bounds { (at + 16 ≤ length s.now) × (low (drop at s.now) < 16) }
-    requires behind { Behind s.now at }
-    ensures { result ≡ ascii_end s.now at }
+// Past W words, where they are there and all ASCII.
+fn step<const W: usize>(s: &[u8], at: usize) -> usize
+    requires width { W ≤ 8 }
+    requires at_in_bounds { at ≤ length s.now }
+    ensures within { (at ≤ result) × (result ≤ ascii_end s.now at) }
+    ensures near { ascii_end s.now at < at + 16 * W → ascii_end s.now at < result + 8 * W }
 {
-    if ascii8(s, at) {
-        return among8(s, at + 8);
+    if at + 8 * W <= s.len() && are_ascii::<W>(s, at) {
+        at + 8 * W
+    } else {
+        at
     }
-    among8(s, at)
 }
 
-fn among32(s: &[u8], at: usize) -> usize
-    requires at_in_bounds { (at + 32 ≤ length s.now) × (low (drop at s.now) < 32) }
-    requires behind { Behind s.now at }
-    ensures { result ≡ ascii_end s.now at }
-{
-    if ascii16(s, at) {
-        return among16(s, at + 16);
-    }
-    among16(s, at)
-}
-
-fn among64(s: &[u8], at: usize) -> usize
-    requires at_in_bounds { (at + 64 ≤ length s.now) × (low (drop at s.now) < 64) }
-    requires behind { Behind s.now at }
-    ensures { result ≡ ascii_end s.now at }
-{
-    if ascii32(s, at) {
-        return among32(s, at + 32);
-    }
-    among32(s, at)
-}
-
-// Past the ASCII, where fewer bytes than two blocks are left. The last word of the text may begin among bytes that are passed.
-fn rest8(s: &[u8], at: usize) -> usize
-    requires s_len_bound { length s.now < at + 16 }
-    requires behind { Behind s.now at }
-    ensures { result ≡ ascii_end s.now at }
-{
-    if s.len() < at + 8 {
-        return past8(s, s.len() - 8);
-    }
-    if !ascii8(s, at) {
-        return among8(s, at);
-    }
-    past8(s, s.len() - 8)
-}
-
-fn rest16(s: &[u8], at: usize) -> usize
-    requires s_len_bound { length s.now < at + 32 }
-    requires behind { Behind s.now at }
-    ensures { result ≡ ascii_end s.now at }
-{
-    if s.len() < at + 16 {
-        return rest8(s, at);
-    }
-    if !ascii16(s, at) {
-        return among16(s, at);
-    }
-    rest8(s, at + 16)
-}
-
-fn rest32(s: &[u8], at: usize) -> usize
-    requires s_len_bound { length s.now < at + 64 }
-    requires behind { Behind s.now at }
-    ensures { result ≡ ascii_end s.now at }
-{
-    if s.len() < at + 32 {
-        return rest16(s, at);
-    }
-    if !ascii32(s, at) {
-        return among32(s, at);
-    }
-    rest16(s, at + 32)
-}
-
-// Past the ASCII, in blocks.
-fn blocks_end(s: &[u8], at: usize) -> usize
-    requires { Behind s.now at }
-    ensures { result ≡ ascii_end s.now at }
-{
-    let mut i = at;
-    while i + 64 <= s.len() {
-        if !ascii64(s, i) {
-            return among64(s, i);
-        }
-        i += 64;
-    }
-    rest32(s, i)
-}
-
-// The place of the first byte from a place on that is not ASCII, or the end.
+// The place of the first byte from a place on that is not ASCII, or the end: the first word tells of most texts that are not all ASCII, then go blocks
+// of words and halves of a block. Less than a word is left then, and the last word of the text may begin among bytes that are passed.
 pub fn ascii_end(s: &[u8], at: usize) -> usize
     ensures { result ≡ ascii_end s.now at }
 {
     if s.len() <= at {
         return at;
     }
-    if s.len() < 8 {
-        return bytes_end(s, at);
+    if s.len() - at < 8 {
+        return at + leading(&s[at..]);
     }
-    if s.len() - 8 < at {
-        return bytes_end(s, at);
+    let word = tops::<8>(s, at);
+    if word != 0 {
+        return at + word.trailing_zeros() as usize / 8;
     }
-    if !ascii8(s, at) {
-        return past8(s, at);
+    let mut i = at + 8;
+    // a `for` over the blocks would need their place beside it
+    while i + 64 <= s.len() && are_ascii::<8>(s, i) {
+        i += 64;
     }
-    blocks_end(s, at + 8)
+    let i = step::<1>(s, step::<2>(s, step::<4>(s, i)));
+    past::<1>(s, i.min(s.len() - 8))
 }
 
 // The same from the front of a text of fewer than 8 bytes, in few steps: its first bytes and its last bytes, which may overlap, are two blocks.
 // Of a longer text nothing is read, and the answer is 0.
+#[tactic(auto, using(crate::proofs::Low::low_prefix), unfolding(crate::specs::Ascii::front))]
 pub fn front8(s: &[u8]) -> usize
     ensures { result ≡ front 8 s.now }
 {
@@ -244,37 +101,35 @@ pub fn front8(s: &[u8]) -> usize
     if 8 <= n {
         return 0;
     }
-    if 4 <= n && ascii4(s, 0) && ascii4(s, n - 4) {
+    if 4 <= n && tops::<4>(s, 0) == 0 && tops::<4>(s, n - 4) == 0 {
         return n;
     }
-    bytes_end(s, 0)
+    leading(s)
+}
+
+// The first W words and the last ones, which may overlap, are all of a text.
+fn ends<const W: usize>(s: &[u8]) -> usize
+    requires { (8 * W ≤ length s.now) × (length s.now ≤ 16 * W) }
+    ensures { result ≡ ascii_end s.now 0 }
+{
+    let at = if are_ascii::<W>(s, 0) {
+        s.len() - 8 * W
+    } else {
+        0
+    };
+    past::<W>(s, at)
 }
 
 // The same of a text of fewer than 64 bytes.
+#[tactic(auto, using(crate::proofs::Low::low_prefix), unfolding(crate::specs::Ascii::front))]
 pub fn front64(s: &[u8]) -> usize
     ensures { result ≡ front 64 s.now }
 {
-    let n = s.len();
-    if 64 <= n {
-        return 0;
+    match s.len() {
+        0..8 => leading(s),
+        8..16 => ends::<1>(s),
+        16..32 => ends::<2>(s),
+        32..64 => ends::<4>(s),
+        _ => 0,
     }
-    if n < 8 {
-        return bytes_end(s, 0);
-    }
-    if n < 16 {
-        if ascii8(s, 0) {
-            return past8(s, n - 8);
-        }
-        return past8(s, 0);
-    }
-    if n < 32 {
-        if ascii16(s, 0) {
-            return past16(s, n - 16);
-        }
-        return past16(s, 0);
-    }
-    if ascii32(s, 0) {
-        return past32(s, n - 32);
-    }
-    past32(s, 0)
 }

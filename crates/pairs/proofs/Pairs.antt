@@ -1,12 +1,12 @@
--- The laws of pairs: what a pair says of its two bytes, and how a block takes the place further.
+-- The laws of pairs: what a pair says of its two bytes, and how far a place may be that was reached.
 -- Assumes nothing.
-use Prim.Native.Nat.{ℕ, ◌+◌, ◌-◌, ◌≤◌, ◌<◌}
-use mathlib.Core.Path.{◌≡◌, refl, sym, ◌∙◌, subst}
-use mathlib.Core.Bool.{Bool, beq, true, false, not}
+use Prim.Native.Nat.{ℕ, ◌-◌, ◌≤◌, ◌<◌}
+use mathlib.Core.Path.{◌≡◌, refl, sym, ◌∙◌}
+use mathlib.Core.Bool.{Bool, beq, true, false, ◌&&◌}
 use mathlib.Core.List.{List}
 use native.Mathlib.Omega.{arith}
 use lib.Dec.{ltb, leb}
-use lib.ListN.{length, get_or}
+use lib.ListN.{length}
 use borrow.Author.Tests.{ltb-true, ltb-false, leb-true, leb-false, le-leb, lt-leb, not-true}
 use Rattle.pairs.specs.Pairs.{lead, tail, right, Rights}
 
@@ -44,61 +44,15 @@ module _ (b : ℕ) where
       by (leb 128 b) (λ t. (leb-true 128 b t, leb-true b 191 (tail-up (leb-true 128 b t) ∙ e)))
       (λ t. no (sym t ∙ tail-low (leb-false 128 b t) ∙ e))
 
--- ---- the code's two comparisons
-module _ (a b : ℕ) where
-  pub unlike : (l t : Bool) → l ≡ lead a → t ≡ tail b → not (beq l t) ≡ true → false ≡ right a b
-  unfolding right
-  unlike true true e f n = no n
-  unlike true false e f n = simp (sym e, sym f)
-  unlike false true e f n = by (leb 192 a) (λ u. simp (sym e, sym f, u)) (λ u. simp (sym e, sym f, u))
-  unlike false false e f n = no n
-
-  pub like : (l t m : Bool) → l ≡ lead a → t ≡ tail b → not (beq l t) ≡ false → m ≡ lead a → beq m (leb 192 a) ≡ right a b
-  unfolding right
-  like true true m e f n g = simp (g ∙ sym e, sym e, sym f, le-leb 192 a (let w = lead-there a (sym e) in omega arith))
-  like true false m e f n g = no (sym n)
-  like false true m e f n g = no (sym n)
-  like false false m e f n g = by (leb 192 a) (λ u. simp (g ∙ sym e, sym e, sym f, u)) (λ u. simp (g ∙ sym e, sym e, sym f, u))
-
--- ---- places
-module _ (s : List ℕ) (at : ℕ) where
-  pub none : Rights s at at
-  none = record { on = omega arith; each = λ k g h. absurd (omega arith) }
-
-  pub one : (r : ℕ) → Rights s at r → r + 1 < length s → right (get_or s r 0) (get_or s (r + 1) 0) ≡ true → Rights s at (r + 1)
-  one r p h e =
-      record {
-        on = omega (arith, p.on);
-        each =
-            λ k g l.
-            by (ltb k r) (λ t. p.each k g (ltb-true k r t))
-            (λ t.
-            let d : r ≡ k = omega (arith, ltb-false k r t) in
-            subst (λ (m : ℕ). (m + 1 < length s) × (right (get_or s m 0) (get_or s (m + 1) 0) ≡ true)) d (h, e));
-      }
-
-  -- a block that begins before the place where the last one ended, or there
-  pub onward : (j k r : ℕ) → Rights s at j → k ≤ j → j ≤ r → Rights s k r → Rights s at r
-  onward j k r p g h q =
-      record {
-        on = omega (arith, p.on);
-        each =
-            λ m a b.
-            by (ltb m j) (λ t. p.each m a (ltb-true m j t))
-            (λ t. q.each m (omega (arith, ltb-false m j t)) b);
-      }
-
--- the loop of a block, k pairs on
-module _ (s : List ℕ) (at : ℕ) where
-  pub start : Rights s at (at + 0)
-  start = subst (Rights s at) (let e : at ≡ at + 0 = omega arith in e) (none s at)
-
-  pub again : (k : ℕ) {r : Bool} → at + k + 1 < length s → r ≡ right (get_or s (at + k) 0) (get_or s (at + k + 1) 0) → r ≡ true → Rights s at (at + k) → Rights s at (at + (k + 1))
-  again k h e t p =
-      subst (Rights s at) (let f : at + k + 1 ≡ at + (k + 1) = omega arith in f) (one s at (at + k) p h (sym e ∙ t))
-
-  pub ended : (k : ℕ) → k ≤ 16 → 16 ≤ k → Rights s at (at + k) → Rights s at (at + 16)
-  ended k h g p = subst (λ (m : ℕ). Rights s at (at + m)) (let f : k ≡ 16 = omega arith in f) p
+-- ---- the code's comparisons
+pub compared : (a b : ℕ) → (beq (lead a) (tail b) && beq (lead a) (leb 192 a)) ≡ right a b
+unfolding right
+compared a b =
+    by (lead a)
+    (λ l.
+    let w = lead-there a l in
+    simp (l, le-leb 192 a (omega arith)) (by (tail b) (λ t. simp t) (λ t. simp t)))
+    (λ l. by (tail b) (λ t. by (leb 192 a) (λ u. simp (l, t, u)) (λ u. simp (l, t, u))) (λ t. by (leb 192 a) (λ u. simp (l, t, u)) (λ u. simp (l, t, u))))
 
 -- ---- what a pair says
 module _ (a b : ℕ) where

@@ -6,6 +6,7 @@ ghost use Rattle.std.specs.Prelude.{◌≡◌, true, ◌+◌, ◌≤◌, ◌<◌
 ghost use Rattle.pairs.specs.Pairs.{lead, tail, right, Rights};
 
 // Whether a byte begins a character of two bytes.
+#[tactic(auto, unfolding(crate::specs::Pairs::lead))]
 fn is_lead(b: u8) -> bool
     ensures { result ≡ lead b }
 {
@@ -13,6 +14,7 @@ fn is_lead(b: u8) -> bool
 }
 
 // Whether a byte ends one.
+#[tactic(auto, unfolding(crate::specs::Pairs::tail))]
 pub fn is_tail(b: u8) -> bool
     ensures { result ≡ tail b }
 {
@@ -20,29 +22,24 @@ pub fn is_tail(b: u8) -> bool
 }
 
 // Whether the byte b may stand behind the byte a. Tests that are compared, not nested, keep the compiler from making branches of them.
+#[tactic(auto, using(crate::proofs::Pairs::compared))]
 fn is_right(a: u8, b: u8) -> bool
     ensures { result ≡ right a b }
 {
-    if is_lead(a) != is_tail(b) {
-        return false;
-    }
-    is_lead(a) == (192 <= a)
+    (is_lead(a) == is_tail(b)) & (is_lead(a) == (192 <= a))
 }
 
-// Whether each of the next sixteen bytes is right before the one behind it.
+// Whether each of the next sixteen bytes is right before the one behind it. All are tested: `all` over the pairs, which ends at the first that is wrong,
+// keeps the compiler from vectors and takes some 230 instructions where this takes 30.
 fn block(s: &[u8], at: usize) -> bool
     requires { at + 16 < length s.now }
     ensures { result ≡ true → Rights s.now at (at + 16) }
 {
-    let mut bad = false;
-    let mut k = 0;
-    while k < 16 {
-        if !is_right(s[at + k], s[at + k + 1]) {
-            bad = true;
-        }
-        k += 1;
+    let mut all = true;
+    for k in at..at + 16 {
+        all &= is_right(s[k], s[k + 1]);
     }
-    !bad
+    all
 }
 
 // Whether most of a block is ASCII, told by three of its bytes: words pass such a text in fewer steps. No answer is wrong.
@@ -52,17 +49,6 @@ fn is_plain(s: &[u8], at: usize) -> bool
     s[at + 16] < 128 && s[at + 12] < 128 && s[at + 7] < 128
 }
 
-// Where the block for a place begins: there, or earlier where it would end past a text of n bytes.
-fn block_start(n: usize, at: usize) -> usize
-    requires { (17 ≤ n) × (at + 1 < n) }
-    ensures { (result ≤ at) × (at < result + 16) × (result + 16 < n) }
-{
-    if n - 17 < at {
-        return n - 17;
-    }
-    at
-}
-
 // From a place on, a place up to which each byte is right before the next: the end of the last block of which that is known.
 pub fn pairs_end(s: &[u8], at: usize) -> usize
     ensures { Rights s.now at result }
@@ -70,10 +56,10 @@ pub fn pairs_end(s: &[u8], at: usize) -> usize
     if s.len() < 17 {
         return at;
     }
-    let last = s.len() - 1;
     let mut j = at;
-    while j < last {
-        let k = block_start(s.len(), j);
+    while j < s.len() - 1 {
+        // the last block would end past the text, and begins earlier
+        let k = j.min(s.len() - 17);
         if !block(s, k) {
             return j;
         }

@@ -11,14 +11,13 @@ use Rattle.rfc3629.specs.Machine.{Verdict, ok, bad, verdict, verdict_from, plus}
 use Rattle.rfc3629.proofs.Grammar as grammar
 use Rattle.rfc3629.proofs.Place as place
 use Rattle.rfc3629.proofs.Counted.{counted}
-use Rattle.utf8.specs.declared.Utf8Check.{Utf8Check}
-use Rattle.utf8.specs.declared.Utf8Check.TheVariants.{Valid, Bad}
-use Rattle.utf8.specs.Answer.{Tells, answer, checked, counted_from}
+use Rattle.std.specs.Prelude.{Ok, Err}
+use Rattle.utf8.specs.Answer.{Check, good, bad_at, Tells, answer, checked, counted_from}
 
 -- an answer names its verdict
-named : Utf8Check → Verdict
-named Valid = ok
-named (Bad p) = bad p
+named : Check → Verdict
+named (Ok u) = ok
+named (Err e) = bad e.place
 
 back : (v : Verdict) → named (answer v) ≡ v
 unfolding named
@@ -28,25 +27,25 @@ back (bad p) = refl
 same : (v w : Verdict) → answer v ≡ answer w → v ≡ w
 same v w e = sym (back v) ∙ ap named e ∙ back w
 
--- the test answers Valid exactly for UTF-8
-pub valid : (s : List ℕ) → (checked s ≡ Valid → Utf8 s) × (Utf8 s → checked s ≡ Valid)
+-- the test answers Ok exactly for UTF-8
+pub valid : (s : List ℕ) → (checked s ≡ good → Utf8 s) × (Utf8 s → checked s ≡ good)
 valid s = (λ e. (grammar.valid s).0 (same (verdict s) ok e), λ u. ap answer ((grammar.valid s).1 u))
 
--- and Bad p exactly for what breaks at p
-pub broken : (s : List ℕ) (p : ℕ) → (checked s ≡ Bad p → Breaks s p) × (Breaks s p → checked s ≡ Bad p)
+-- and a break at p exactly for what breaks at p
+pub broken : (s : List ℕ) (p : ℕ) → (checked s ≡ bad_at p → Breaks s p) × (Breaks s p → checked s ≡ bad_at p)
 broken s p = (λ e. (place.broken s p).0 (same (verdict s) (bad p) e), λ b. ap answer ((place.broken s p).1 b))
 
 pub tells : (s : List ℕ) → Tells s (checked s)
 tells s = record { valid = valid s; broken = broken s }
 
 -- two answers that tell of the same bytes are equal
-pub one_answer : {s : List ℕ} (r q : Utf8Check) → Tells s r → Tells s q → r ≡ q
-one_answer Valid q t u = sym (u.valid.1 (t.valid.0 refl))
-one_answer (Bad p) q t u = sym ((u.broken p).1 ((t.broken p).0 refl))
+pub one_answer : {s : List ℕ} (r q : Check) → Tells s r → Tells s q → r ≡ q
+one_answer (Ok u) q t w = sym (w.valid.1 (t.valid.0 refl))
+one_answer (Err e) q t w = sym ((w.broken e.place).1 ((t.broken e.place).0 refl))
 
 -- what utf8_check promises follows from the verdict
-pub told : {s : List ℕ} (v : Verdict) → verdict s ≡ v → (answer v ≡ checked s) × Tells s (answer v)
-told {s} v e = (ap answer (sym e), subst (λ (w : Verdict). Tells s (answer w)) e (tells s))
+pub told : {s : List ℕ} (r : Check) → r ≡ checked s → Tells s r
+told {s} r e = subst (Tells s) (sym e) (tells s)
 
 -- ---- the place shifts with the start
 pub shifted : (k : ℕ) (s : List ℕ) → answer (verdict_from k s) ≡ counted_from k (checked s)

@@ -3,22 +3,20 @@
 -- Assumes nothing.
 use Prim.Native.Nat.{ℕ, suc, ◌+◌, ◌≤◌, ◌<◌}
 use mathlib.Core.Path.{◌≡◌, refl, sym, ap, ◌∙◌, subst}
-use mathlib.Core.Bool.{Bool, true, false, not}
+use mathlib.Core.Bool.{true, false}
 use mathlib.Core.List.{List, [], ◌∷◌}
 use native.Mathlib.Nat.{add-zero}
 use native.Mathlib.Numerals.{add-one}
 use native.Mathlib.Omega.{arith}
-use lib.Dec.{ltb, leb}
+use lib.Dec.{ltb}
 use lib.ListN.{length, get_or, drop, drop_of_length-le}
 use lib.Seq.{drop-cons, drop-drop}
-use borrow.Author.Tests.{ltb-true, ltb-false, leb-true, leb-false, eq-eqb, ne_eqb, not-true, not-false}
+use borrow.Author.Tests.{ltb-true, ltb-false}
 use Rattle.ascii.specs.Ascii.{low, ascii_end, front}
 use Rattle.ascii.proofs.Low.{by, low-yes, low-no, front-le}
-use Rattle.rfc3629.specs.Machine.{State, start, more, to, stop, bad, least, most, lead, follow, next, ended, run}
+use Rattle.rfc3629.specs.Machine.{State, start, more, to, stop, bad, lead, follow, next, ended, run}
 use Rattle.rfc3629.proofs.Steps.{enter, halt, below, above, inside, lead1}
-use Rattle.utf8.specs.declared.Step.{Step}
-use Rattle.utf8.specs.declared.Step.TheVariants.{Next, Stop}
-use Rattle.utf8.specs.Course.{Runs, Takes, Fit, Leads, on, off}
+use Rattle.utf8.specs.Course.{Runs}
 
 no : {A : Type 0} → false ≡ true → A
 no e = absurd (let z : ◌≡◌ {A = ℕ} 0 1 = cc in omega arith)
@@ -93,28 +91,14 @@ front-runs n s e =
 
 -- ---- a byte in its range
 module _ (lo hi : ℕ) (s : List ℕ) (at : ℕ) where
-  pub takes-end : length s ≤ at → Takes lo hi s at false
-  takes-end h = record { there = λ e. no e; stops = λ e k. out (more k lo hi) s at h }
+  pub takes-end : length s ≤ at → (k : ℕ) → run (more k lo hi) at (drop at s) ≡ bad at
+  takes-end h k = out (more k lo hi) s at h
 
-  pub takes-below : at < length s → get_or s at 0 < lo → Takes lo hi s at false
-  takes-below h b = record { there = λ e. no e; stops = λ e k. rest (more k lo hi) s at h (below k lo hi (get_or s at 0) b) }
+  pub takes-below : at < length s → get_or s at 0 < lo → (k : ℕ) → run (more k lo hi) at (drop at s) ≡ bad at
+  takes-below h b k = rest (more k lo hi) s at h (below k lo hi (get_or s at 0) b)
 
-  pub takes-to : at < length s → lo ≤ get_or s at 0 → Takes lo hi s at (leb (get_or s at 0) hi)
-  takes-to h b =
-      record {
-        there = λ e. (h, b, leb-true (get_or s at 0) hi e);
-        stops = λ e k. rest (more k lo hi) s at h (above k lo hi (get_or s at 0) b (leb-false (get_or s at 0) hi e));
-      }
-
-module _ (b first last lo hi : ℕ) {s : List ℕ} {at : ℕ} {r : Bool} where
-  pub second-first : first < last → b ≡ first → Takes lo 191 s at r → Takes (least b first lo) (most b last hi) s at r
-  second-first h e t = simp (eq-eqb b first e, ne_eqb b last (λ f. omega arith)) t
-
-  pub second-last : (b ≡ first → ⊥) → b ≡ last → Takes 128 hi s at r → Takes (least b first lo) (most b last hi) s at r
-  second-last n e t = simp (ne_eqb b first n, eq-eqb b last e) t
-
-  pub second-other : (b ≡ first → ⊥) → (b ≡ last → ⊥) → Takes 128 191 s at r → Takes (least b first lo) (most b last hi) s at r
-  second-other n m t = simp (ne_eqb b first n, ne_eqb b last m) t
+  pub takes-above : at < length s → lo ≤ get_or s at 0 → hi < get_or s at 0 → (k : ℕ) → run (more k lo hi) at (drop at s) ≡ bad at
+  takes-above h b g k = rest (more k lo hi) s at h (above k lo hi (get_or s at 0) b g)
 
 -- ---- a character
 -- after j bytes of the character that begins at a place, the run is in a state
@@ -124,36 +108,19 @@ pub record After (s : List ℕ) (at j : ℕ) (st : State) : Type 0 where
 pub begun : (s : List ℕ) (at : ℕ) {st : State} → at < length s → lead (get_or s at 0) ≡ to st → After s at 1 st
 begun s at {st} h l = record { same = step start s at st (at + 1) refl h l }
 
--- the code asks whether the next byte does not fit
-module _ {j : ℕ} {lo hi : ℕ} {s : List ℕ} {at : ℕ} {r : Bool} where
-  pub onto : {k : ℕ} → After s at j (more k lo hi) → Takes lo hi s (at + j) r → not r ≡ false → After s at (j + 1) (follow k)
-  onto {k} a t e =
-      let w = t.there (not-false r e) in
-      let f : at + (j + 1) ≡ at + j + 1 = omega arith in
-      record { same = a.same ∙ step (more k lo hi) s (at + j) (follow k) (at + (j + 1)) f w.0 (inside k lo hi _ (w.1, w.2)) }
+-- the next byte is in its range
+pub onto : {j k lo hi : ℕ} {s : List ℕ} {at : ℕ} → After s at j (more k lo hi) → (at + j < length s) × (lo ≤ get_or s (at + j) 0) × (get_or s (at + j) 0 ≤ hi) → After s at (j + 1) (follow k)
+onto {j} {k} {lo} {hi} {s} {at} a w =
+    let f : at + (j + 1) ≡ at + j + 1 = omega arith in
+    record { same = a.same ∙ step (more k lo hi) s (at + j) (follow k) (at + (j + 1)) f w.0 (inside k lo hi _ (w.1, w.2)) }
 
-  pub fit-whole : After s at j (more 0 lo hi) → Takes lo hi s (at + j) r → not r ≡ false → Fit (j + 1) s at (j + 1)
-  fit-whole a t e =
-      let w = (t.there (not-false r e)).0 in
-      record { whole = λ h. record { on = omega arith; within = omega arith; same = (onto a t e).same }; part = λ h. absurd (omega arith) }
+-- where it is not, the run stops there
+pub halted : {j k lo hi p : ℕ} {s : List ℕ} {at : ℕ} → After s at j (more k lo hi) → (p ≡ at + j) × ((n : ℕ) → run (more n lo hi) (at + j) (drop (at + j) s) ≡ bad (at + j)) → run start at (drop at s) ≡ bad p
+halted {k = k} a w = a.same ∙ w.1 k ∙ ap bad (sym w.0)
 
-  pub fit-part : {k n : ℕ} → j < k → After s at j (more n lo hi) → Takes lo hi s (at + j) r → not r ≡ true → Fit k s at j
-  fit-part {n = n} h a t e = record { whole = λ g. absurd (omega arith); part = λ g. a.same ∙ t.stops (not-true r e) n }
+pub never : (s : List ℕ) (at : ℕ) → at < length s → lead (get_or s at 0) ≡ stop → run start at (drop at s) ≡ bad at
+never s at h l = rest start s at h l
 
-pub fit_none : (k : ℕ) (s : List ℕ) (at : ℕ) → 0 < k → at < length s → lead (get_or s at 0) ≡ stop → Fit k s at 0
-fit_none k s at g h l =
-    record { whole = λ n. absurd (omega arith); part = λ n. rest start s at h l ∙ ap bad (sym (add-zero at)) }
-
--- ---- the answers of steps
-module _ {from : ℕ} {s : List ℕ} {at : ℕ} where
-  next_place : {j : ℕ} → Leads from s at (Next j) → (from ≤ j) × Runs s at j
-  next_place (on p a) = (a, p)
-
-  pub led : {r : Step} {j : ℕ} → r ≡ Next j → Leads from s at r → (from ≤ j) × Runs s at j
-  led e l = next_place (subst (Leads from s at) e l)
-
-  stop-place : {p : ℕ} → Leads from s at (Stop p) → run start at (drop at s) ≡ bad p
-  stop-place (off e) = e
-
-  pub stopped : {r : Step} {p : ℕ} → r ≡ Stop p → Leads from s at r → run start at (drop at s) ≡ bad p
-  stopped e l = stop-place (subst (Leads from s at) e l)
+-- a whole character
+pub whole : (s : List ℕ) (at j : ℕ) → After s at j start → 1 ≤ j → at + j ≤ length s → Runs s at (at + j)
+whole s at j a g h = record { on = omega arith; within = h; same = a.same }

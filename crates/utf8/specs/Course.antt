@@ -1,9 +1,9 @@
 -- What private functions do on the way, said by the machine of the crate rfc3629.
 -- Assumes nothing.
-use Rattle.std.specs.Prelude.{ℕ, ◌+◌, ◌≤◌, ◌<◌, ◌≡◌, Bool, true, false, List, length, get_or, drop}
+use Rattle.std.specs.Prelude.{ℕ, ◌≤◌, ◌<◌, ◌≡◌, List, length, get_or, drop, Result, Ok, Err}
 use Rattle.rfc3629.specs.Machine.{start, more, bad, run}
-use Rattle.utf8.specs.declared.Step.{Step}
-use Rattle.utf8.specs.declared.Step.TheVariants.{Next, Stop}
+use Rattle.utf8.specs.declared.Utf8Error.{Utf8Error}
+use Rattle.utf8.specs.Answer.{Check}
 
 -- from the place `at`, where a character begins, the run comes to r, where one begins
 pub record Runs (s : List ℕ) (at r : ℕ) : Type 0 where
@@ -11,17 +11,12 @@ pub record Runs (s : List ℕ) (at r : ℕ) : Type 0 where
   pub within : r ≤ length s
   pub same : run start at (drop at s) ≡ run start r (drop r s)
 
--- r says whether a byte from lo to hi stands at a place; where none does, a run that asks for one stops there
-pub record Takes (lo hi : ℕ) (s : List ℕ) (at : ℕ) (r : Bool) : Type 0 where
-  pub there : r ≡ true → (at < length s) × (lo ≤ get_or s at 0) × (get_or s at 0 ≤ hi)
-  pub stops : r ≡ false → (k : ℕ) → run (more k lo hi) at (drop at s) ≡ bad at
-
--- n bytes fit a character of k: it is whole, or the run stops behind them
-pub record Fit (k : ℕ) (s : List ℕ) (at n : ℕ) : Type 0 where
-  pub whole : k ≤ n → Runs s at (at + k)
-  pub part : n < k → run start at (drop at s) ≡ bad (at + n)
+-- a byte from lo to hi stands at a place; where none does, a run that asks for one stops there
+abbrev pub Takes : ℕ → ℕ → List ℕ → ℕ → Check → Type 0
+Takes lo hi s at (Ok u) = (at < length s) × (lo ≤ get_or s at 0) × (get_or s at 0 ≤ hi)
+Takes lo hi s at (Err e) = (e.place ≡ at) × ((k : ℕ) → run (more k lo hi) at (drop at s) ≡ bad at)
 
 -- what a step says from a place where a character begins: the place, from `from` on, where the next begins, or where the run stops
-pub data Leads (from : ℕ) (s : List ℕ) (at : ℕ) : Step → Type 0 where
-  on : {j : ℕ} → Runs s at j → from ≤ j → Leads from s at (Next j)
-  off : {p : ℕ} → run start at (drop at s) ≡ bad p → Leads from s at (Stop p)
+abbrev pub Leads : ℕ → List ℕ → ℕ → Result ℕ Utf8Error → Type 0
+Leads from s at (Ok j) = Runs s at j × (from ≤ j)
+Leads from s at (Err e) = run start at (drop at s) ≡ bad e.place

@@ -1,137 +1,101 @@
-// Whether bytes are UTF-8 by RFC 3629, and where they break. ASCII is passed in words, and characters of two bytes at the front in blocks; of any
-// other character it is counted how many of its bytes fit.
+// Whether bytes are UTF-8 by RFC 3629, and where they break. ASCII is passed in words, and characters of two bytes at the front in blocks; any other
+// character goes byte by byte.
 #![tactic(auto)]
 
 ghost use Rattle.std.specs.Prelude.{◌≡◌, ◌+◌, ◌≤◌, ◌<◌, length, get_or};
 ghost use Rattle.rfc3629.specs.Machine.{least, most};
 ghost use Rattle.utf8.specs.Answer.{Tells, checked};
-ghost use Rattle.utf8.specs.Course.{Runs, Takes, Fit, Leads};
+ghost use Rattle.utf8.specs.Course.{Runs, Takes, Leads};
 
 use ascii::{ascii_end, front8, front64};
 use pairs::{is_tail, pairs_end};
 
-// The answer: all of it is UTF-8, or the place where it breaks. That is the first byte that can neither begin nor continue a character there;
-// of a character that is cut at the end, the end.
-#[derive(Clone, Copy)]
-pub enum Utf8Check {
-    Valid,
-    Bad(usize),
+// Where bytes that are not UTF-8 break: at the first byte that can neither begin nor continue a character there; of a character that is cut at the end, at
+// the end.
+#[derive(Clone, Copy, Debug, PartialEq, Eq)]
+pub struct Utf8Error {
+    pub place: usize,
 }
 
-// From one place on: the next place where a character begins, or the place of the break.
-#[derive(Clone, Copy)]
-enum Step {
-    Next(usize),
-    Stop(usize),
-}
-
-// Whether a byte from `lo` to `hi` stands there.
-fn fits(s: &[u8], at: usize, lo: u8, hi: u8) -> bool
+// A byte from `lo` to `hi` has to stand there.
+fn need(s: &[u8], at: usize, lo: u8, hi: u8) -> Result<(), Utf8Error>
     ensures { Takes lo hi s.now at result }
 {
-    if s.len() <= at {
-        return false;
+    match s.get(at) {
+        Some(b) if lo <= *b && *b <= hi => Ok(()),
+        _ => Err(Utf8Error { place: at }),
     }
-    let b = s[at];
-    if b < lo {
-        return false;
-    }
-    b <= hi
 }
 
-// The same of a second byte, behind the byte `b`: behind `first` it is `lo` or above, behind `last` it is `hi` or below.
-fn second_fits(s: &[u8], at: usize, b: u8, first: u8, lo: u8, last: u8, hi: u8) -> bool
-    requires { first < last }
-    ensures { Takes (least b first lo) (most b last hi) s.now at result }
+// A second byte has to stand there that may follow the first byte `b` of a character of three bytes or of four.
+fn second(s: &[u8], at: usize, b: u8) -> Result<(), Utf8Error>
+    requires { 224 ≤ b }
+    ensures three { b < 240 → Takes (least b 224 160) (most b 237 159) s.now at result }
+    ensures four { 240 ≤ b → Takes (least b 240 144) (most b 244 143) s.now at result }
 {
-    if b == first {
-        return fits(s, at, lo, 191);
+    match b {
+        224 => need(s, at, 160, 191),
+        237 => need(s, at, 128, 159),
+        240 => need(s, at, 144, 191),
+        244 => need(s, at, 128, 143),
+        _ => need(s, at, 128, 191),
     }
-    if b == last {
-        return fits(s, at, 128, hi);
-    }
-    fits(s, at, 128, 191)
 }
 
-// How many bytes fit a character of two bytes, whose first byte is from 80 to DF.
-fn fit_two(s: &[u8], at: usize) -> usize
+// Past a character of two bytes, whose first byte is from 80 to DF. These four are part of the loop: a call takes as long as a character.
+#[inline(always)]
+fn past_two(s: &[u8], at: usize) -> Result<usize, Utf8Error>
     requires at_in_bounds { at < length s.now }
     requires bound { (128 ≤ get_or s.now at 0) × (get_or s.now at 0 < 224) }
-    ensures { Fit 2 s.now at result }
-{
-    if s[at] < 194 {
-        return 0;
-    }
-    if !fits(s, at + 1, 128, 191) {
-        return 1;
-    }
-    2
-}
-
-// How many bytes fit a character of three bytes, whose first byte is from E0 to EF.
-fn fit_three(s: &[u8], at: usize) -> usize
-    requires at_in_bounds { at < length s.now }
-    requires bound { (224 ≤ get_or s.now at 0) × (get_or s.now at 0 < 240) }
-    ensures { Fit 3 s.now at result }
-{
-    if !second_fits(s, at + 1, s[at], 224, 160, 237, 159) {
-        return 1;
-    }
-    if !fits(s, at + 2, 128, 191) {
-        return 2;
-    }
-    3
-}
-
-// How many bytes fit a character of four bytes, whose first byte is F0 or above.
-fn fit_four(s: &[u8], at: usize) -> usize
-    requires at_in_bounds { at < length s.now }
-    requires bound { 240 ≤ get_or s.now at 0 }
-    ensures { Fit 4 s.now at result }
-{
-    if 244 < s[at] {
-        return 0;
-    }
-    if !second_fits(s, at + 1, s[at], 240, 144, 244, 143) {
-        return 1;
-    }
-    if !fits(s, at + 2, 128, 191) {
-        return 2;
-    }
-    if !fits(s, at + 3, 128, 191) {
-        return 3;
-    }
-    4
-}
-
-// Past a character of which `n` of `size` bytes fit, or the place of the break.
-fn past(s: &[u8], at: usize, n: usize, size: usize) -> Step
-    requires at_in_bounds { (at < length s.now) × (1 ≤ size) × (size ≤ 4) }
-    requires fit { Fit size s.now at n }
     ensures { Leads (at + 1) s.now at result }
 {
-    if n < size {
-        return Step::Stop(at + n);
+    if s[at] < 194 {
+        return Err(Utf8Error { place: at });
     }
-    Step::Next(at + size)
+    need(s, at + 1, 128, 191)?;
+    Ok(at + 2)
 }
 
-// One character.
-fn char_at(s: &[u8], at: usize) -> Step
+// Past one of three bytes, whose first byte is from E0 to EF.
+#[inline(always)]
+fn past_three(s: &[u8], at: usize) -> Result<usize, Utf8Error>
+    requires at_in_bounds { at < length s.now }
+    requires bound { (224 ≤ get_or s.now at 0) × (get_or s.now at 0 < 240) }
+    ensures { Leads (at + 1) s.now at result }
+{
+    second(s, at + 1, s[at])?;
+    need(s, at + 2, 128, 191)?;
+    Ok(at + 3)
+}
+
+// Past one of four bytes, whose first byte is F0 or above.
+#[inline(always)]
+fn past_four(s: &[u8], at: usize) -> Result<usize, Utf8Error>
+    requires at_in_bounds { at < length s.now }
+    requires bound { 240 ≤ get_or s.now at 0 }
+    ensures { Leads (at + 1) s.now at result }
+{
+    if 244 < s[at] {
+        return Err(Utf8Error { place: at });
+    }
+    second(s, at + 1, s[at])?;
+    need(s, at + 2, 128, 191)?;
+    need(s, at + 3, 128, 191)?;
+    Ok(at + 4)
+}
+
+// Past one character.
+#[inline(always)]
+fn past_char(s: &[u8], at: usize) -> Result<usize, Utf8Error>
     requires { at < length s.now }
     ensures { Leads (at + 1) s.now at result }
 {
-    let b = s[at];
-    if b < 128 {
-        return Step::Next(at + 1);
+    match s[at] {
+        0..128 => Ok(at + 1),
+        128..224 => past_two(s, at),
+        224..240 => past_three(s, at),
+        240.. => past_four(s, at),
     }
-    if b < 224 {
-        return past(s, at, fit_two(s, at), 2);
-    }
-    if b < 240 {
-        return past(s, at, fit_three(s, at), 3);
-    }
-    past(s, at, fit_four(s, at), 4)
 }
 
 // Past the ASCII at the front of a short text.
@@ -139,10 +103,7 @@ fn front(s: &[u8]) -> usize
     requires { 8 ≤ length s.now }
     ensures { Runs s.now 0 result }
 {
-    if s[0] < 128 {
-        return front64(s);
-    }
-    0
+    if s[0] < 128 { front64(s) } else { 0 }
 }
 
 // Whether much of what follows is ASCII, told by three bytes: it is left to words then. No answer is wrong.
@@ -170,67 +131,34 @@ fn past_pairs(s: &[u8], at: usize) -> usize
     j
 }
 
-// From the front to the last three bytes, or to the place of a break. Up to there four bytes follow every place, so that the compiler leaves out
-// the tests for the end; and it goes by counts, where each answer of `char_at` would cost some instructions more.
-fn quick(s: &[u8]) -> Step
+// From the front to the last three bytes. Up to there four bytes follow every place, so that the compiler leaves out the tests for the end.
+fn quick(s: &[u8]) -> Result<usize, Utf8Error>
     ensures { Leads 0 s.now 0 result }
 {
     if s.len() < 8 {
-        return Step::Next(front8(s));
+        return Ok(front8(s));
     }
     let hot = s.len() - 3;
     let mut i = past_pairs(s, front(s));
     while i < hot {
-        let b = s[i];
-        if b < 128 {
-            // one ASCII byte alone, as a space between words, is not worth a word's test
-            if 128 <= s[i + 1] {
-                i += 1;
-            } else {
-                i = ascii_end(s, i);
-            }
-        } else if b < 224 {
-            let n = fit_two(s, i);
-            if n < 2 {
-                return Step::Stop(i + n);
-            }
-            i += 2;
-        } else if b < 240 {
-            let n = fit_three(s, i);
-            if n < 3 {
-                return Step::Stop(i + n);
-            }
-            i += 3;
+        // one ASCII byte alone, as a space between words, is not worth a word's test
+        i = if s[i] < 128 && s[i + 1] < 128 {
+            ascii_end(s, i)
         } else {
-            let n = fit_four(s, i);
-            if n < 4 {
-                return Step::Stop(i + n);
-            }
-            i += 4;
-        }
+            past_char(s, i)?
+        };
     }
-    Step::Next(i)
+    Ok(i)
 }
 
 // Whether the bytes are UTF-8, and where they break.
-pub fn utf8_check(s: &[u8]) -> Utf8Check
+pub fn utf8_check(s: &[u8]) -> Result<(), Utf8Error>
     ensures value { result ≡ checked s.now }
     ensures tells { Tells s.now result }
 {
-    let mut i = 0;
-    match quick(s) {
-        Step::Next(j) => {
-            i = j;
-        }
-        Step::Stop(p) => return Utf8Check::Bad(p),
-    }
+    let mut i = quick(s)?;
     while i < s.len() {
-        match char_at(s, i) {
-            Step::Next(j) => {
-                i = j;
-            }
-            Step::Stop(p) => return Utf8Check::Bad(p),
-        }
+        i = past_char(s, i)?;
     }
-    Utf8Check::Valid
+    Ok(())
 }
