@@ -10,7 +10,8 @@ use borrow.Author.Tests.{le-ltb, lt-ltb}
 use Rattle.std.specs.Prelude.{Result, Ok, Err, ⊤}
 use Rattle.rfc3629.specs.Machine.{Verdict, ok, bad, run, verdict, verdict_from, plus}
 use Rattle.rfc3629.proofs.Counted.{counted}
-use Rattle.utf8.specs.Answer.{Check, Tells, answer as check_answer, bad_at, checked}
+use Rattle.utf8.specs.Answer.{Tells, Check, bad_at, answer as check_answer, checked}
+use Rattle.utf8.specs.declared.Utf8Error.{Utf8Error}
 use Rattle.utf8.proofs.Answers.{breaks-within}
 use Rattle.value.specs.declared.Span.{Span}
 use Rattle.events.specs.Events.{no_key}
@@ -44,8 +45,8 @@ module _ (d : List ℕ) (s : Span) where
         by (bad p) = refl
 
 -- a break of bytes is no further than they are long
-pub near : (bs : List ℕ) (p : ℕ) {r : Check} → r ≡ bad_at p → Tells bs r → p ≤ length bs
-near bs p q t = breaks-within ((t.broken p).0 q)
+pub near : (bs : List ℕ) (e : Utf8Error) {r : Check} → r ≡ Err e → Tells bs r → e.place ≤ length bs
+near bs e q t = breaks-within ((t.broken e.place).0 q)
 
 pub length_taken : (n i : ℕ) (d : List ℕ) → length (take n (drop i d)) ≤ length d
 length_taken n i d = omega (arith, length-take n (drop i d), length-drop i d)

@@ -15,5 +15,5 @@ returns-in-Err c = inside c.args.doc.now c.args.s c.if-doc-end.false c.in-Err.en
 
 pub overflow_add-result : goal.overflow_add-result
 overflow_add-result c =
-    let h = near _ c.in-Err.e.place c.in-Err.is c.utf8_check.ensures.tells in
+    let h = near _ c.in-Err.e c.in-Err.is c.utf8_check.ensures.tells in
     omega (arith, h, length_taken (c.args.s.start + c.args.s.len - c.args.s.start) c.args.s.start c.args.doc.now)
