@@ -17,10 +17,11 @@ use refusal::Refusal;
 fn capped(groups: &[u32; 9], t: usize) -> bool
     ensures { result ≡ all 9 (λ k. capped_at t k (get_or groups.now k 0)) }
 {
+    // A bound for each, and not two tests: so the compiler makes half the instructions of it.
     groups
         .iter()
         .enumerate()
-        .all(|(k, g)| if k < t { *g < 1000000000 } else { *g == 0 })
+        .all(|(k, g)| *g < if k < t { 1000000000 } else { 1 })
 }
 
 // Only the first group can have fewer digits, and only the last a unit above 1.

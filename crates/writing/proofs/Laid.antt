@@ -1,12 +1,13 @@
--- The laws of writing over a list: what is written after what is written already; the groups of a run, one more.
+-- The laws of writing over a list: one byte; what is written before or after what is written already; the groups of a run, one more.
 -- Assumes nothing.
-use mathlib.Core.Path.{◌≡◌, sym, ap, ◌∙◌}
-use mathlib.Core.List.{List, [], ◌++◌, append_assoc}
-use Prim.Native.Nat.{ℕ, suc, ◌+◌, ◌-◌, ◌*◌, ◌≤◌}
+use mathlib.Core.Path.{◌≡◌, refl, sym, ap, ◌∙◌}
+use mathlib.Core.List.{List, [], ◌∷◌, ◌++◌, append_assoc}
+use Prim.Native.Nat.{ℕ, suc, ◌+◌, ◌-◌, ◌*◌, ◌/◌, ◌%◌, ◌≤◌, ◌<◌}
 use native.Mathlib.Nat.{add-zero, zero-add}
+use native.Mathlib.Numerals.{add-one}
 use native.Mathlib.Omega.{arith}
-use lib.ListN.{length, take, drop, length-append, take-append-drop}
-use lib.Seq.{drop_at, take_at, drop-drop, length-take-le}
+use lib.ListN.{length, take, drop, set, length-append, take-append-drop}
+use lib.Seq.{set_split, take-append-le, take-take, drop_at, take_at, drop-drop, length-take-le}
 use Rattle.groups.specs.Numbers.{digits}
 use Rattle.groups.specs.Course.{run}
 use Rattle.writing.specs.Course.{laid_at}
@@ -15,6 +16,26 @@ use Rattle.groups.proofs.SidesLaws.{length_run}
 pub laid_none : (out : List ℕ) (at : ℕ) → laid_at out at 0 [] ≡ out
 unfolding laid_at
 laid_none out at = rw (add-zero at) (take-append-drop at out)
+
+laid-byte : (out : List ℕ) (at v : ℕ) → at + 1 ≤ length out → set out at v ≡ laid_at out at 1 (v ∷ [])
+unfolding laid_at
+laid-byte out at v h = set_split out at v (omega arith) ∙ rw add-one
+
+laid-before : (out A B : List ℕ) (at n m : ℕ) → at + n ≤ length out → laid_at (laid_at out (at + n) m B) at n A ≡ laid_at out at (n + m) (A ++ B)
+unfolding laid_at
+laid-before out A B at n m h =
+    let T = take (at + n) out in
+    let R = B ++ drop (at + n + m) out in
+    let l : length T ≡ at + n = length-take-le (at + n) out h in
+    let p : at + n + m ≡ at + (n + m) = omega arith in
+    rw (take-append-le at T R (omega arith), take-take at (at + n) out (omega arith), drop_at T R (at + n) l, p, append_assoc)
+
+-- the lowest digit of a number, before which the others are written
+pub digit-laid : (out : List ℕ) (at i x : ℕ) → at + i < length out → laid_at (set out (at + i) (x % 256)) at i (digits 256 i (x / 256)) ≡ laid_at out at (suc i) (digits 256 (suc i) x)
+unfolding digits
+digit-laid out at i x h =
+    ap (λ (o : List ℕ). laid_at o at i (digits 256 i (x / 256))) (laid-byte out (at + i) (x % 256) (omega arith))
+    ∙ laid-before out (digits 256 i (x / 256)) (x % 256 ∷ []) at i 1 (omega arith) ∙ rw add-one refl
 
 pub laid-after : (out A B : List ℕ) (at n m : ℕ) → at + n ≤ length out → length A ≡ n → laid_at (laid_at out at n A) (at + n) m B ≡ laid_at out at (n + m) (A ++ B)
 unfolding laid_at

@@ -19,7 +19,11 @@ fn put_bytes(out: &mut [u8], at: usize, w: usize, x: u32)
     requires { (w ≤ 4) × (at + w ≤ length out.old) }
     ensures { out.new ≡ laid_at out.old at w (digits 256 w x) }
 {
-    out[at..at + w].copy_from_slice(&x.to_be_bytes()[4 - w..]);
+    let mut rest = x;
+    for i in (0..w).rev() {
+        out[at + i] = (rest % 256) as u8;
+        rest /= 256;
+    }
 }
 
 // The number whose bytes are those of x, inverted or not.

@@ -1,33 +1,24 @@
--- The lowest bytes of a number of four bytes are its digits in base 256.
+-- The digits come lowest first: what is left to write, put before those already written, is the whole.
 -- Assumes what the contract requires, and nothing else.
-use Rattle.std.proofs.Common.{◌≡◌, ℕ, zero, suc, ◌+◌, ◌-◌, ◌/◌, ◌≤◌, drop, length, w32, arith, ◌∙◌, refl}
-use lib.ListN.{length-drop}
-use lib.Seq.{drop-drop}
-use Rattle.std.proofs.lemmas.List.{take_all}
-use Rattle.std.specs.Int.{to_be_bytes}
+use Rattle.std.proofs.Common.{◌≡◌, suc, ◌-◌, arith, sym, ◌∙◌}
+use lib.ListN.{length-set}
 use Rattle.groups.specs.Numbers.{digits}
-use Rattle.writing.specs.Course.{laid_at}
+use Rattle.writing.proofs.Laid.{laid_none, digit-laid}
 use Rattle.writing.proofs.put_bytes.Goals as goal
 
-lowest : (w x : ℕ) → w ≤ 4 → drop (4 - w) (to_be_bytes w32 x) ≡ digits 256 w x
-unfolding digits
-lowest zero x h = refl
-lowest (suc zero) x h = refl
-lowest (suc (suc zero)) x h = refl
-lowest (suc (suc (suc zero))) x h =
-    let e : x / 65536 ≡ x / 256 / 256 = omega arith in
-    rw e refl
-lowest (suc (suc (suc (suc zero)))) x h =
-    let e : x / 65536 ≡ x / 256 / 256 = omega arith in
-    let q : x / 16777216 ≡ x / 256 / 256 / 256 = omega arith in
-    rw (e, q) refl
-lowest (suc (suc (suc (suc (suc w))))) x h = absurd (omega arith)
+pub loop-i-preserved : goal.loop-i-preserved
+loop-i-preserved c =
+    let l = c.loop-i in
+    let a = c.args in
+    let e : suc (l.i - 1) ≡ l.i = omega arith in
+    record {
+      long = simp length-set l.invariant.long;
+      whole = rw e at (digit-laid l.out a.at (l.i - 1) l.rest (omega arith)) ∙ l.invariant.whole;
+    }
 
 pub returns : goal.returns
-unfolding laid_at
+unfolding digits
 returns c =
-    let a = c.args in
-    let k : a.at + a.w - a.at ≡ a.w = omega arith in
-    let n : length (drop (4 - a.w) (to_be_bytes w32 a.x)) ≤ 4 - (4 - a.w) = rw length-drop (omega arith) in
-    let z : c.copy_from_slice.new.self ≡ digits 256 a.w a.x = c.copy_from_slice.ensures.after ∙ rw c.to_be_bytes.ensures (take_all (4 - (4 - a.w)) (drop (4 - a.w) (to_be_bytes w32 a.x)) n ∙ lowest a.w a.x (omega arith)) in
-    rw (z, k, drop-drop a.w a.at a.out.now) refl
+    let l = c.loop-i in
+    let e : l.i ≡ 0 = omega arith in
+    sym (laid_none l.out c.args.at) ∙ rw e at l.invariant.whole
