@@ -9,8 +9,6 @@ use native.Mathlib.Numerals.{add-one}
 use lib.ListN.{length, get_or, set, take, drop, length-append, get_or-append}
 use lib.Seq.{sets, sets-eq, length-take-le, get_or-append-add}
 use borrow.Author.Tests.{le-ltb, lt-ltb, eq-eqb, ne_eqb}
-use borrow.Rule.Slice.PartMut.{put_mid}
-use Rattle.std.proofs.lemmas.Slice.{put_mid-paste}
 use Rattle.layout.proofs.Cond.{yes, no}
 use Rattle.layout.specs.declared.Kind.{Kind}
 use Rattle.codes.specs.declared.types.JsonbType.{JsonbType}
@@ -49,26 +47,10 @@ put-number out n e h k b =
     ∙ ap (λ (i : ℕ). get_or (front ++ numbers e) (i + k) 0) (sym f)
     ∙ get_or-append-add front (numbers e) k 0
 
--- an event as code lays it down, over a part of the list
-pub put_part : (out : List ℕ) (n : ℕ) (e : Event) {ys : List ℕ} → wide * n + wide ≤ length out → ys ≡ numbers e →
-    put_mid (wide * n) (wide * n + wide - wide * n) out ys ≡ put out n e
+-- an event as code lays it down, number by number
+pub put_stores : (out : List ℕ) (n : ℕ) (e : Event) →
+    set (set (set (set (set (set (set (set (set out (wide * n) e.code) (wide * n + 1) e.depth) (wide * n + 2) e.position) (wide * n + 3) e.key.start) (wide * n + 4) e.key.len) (wide * n + 5) e.part.start) (wide * n + 6) e.part.len) (wide * n + 7) e.extra) (wide * n + 8) e.parent
+    ≡ put out n e
 unfolding put
-put_part out n e {ys} h q =
-    put_mid-paste (wide * n) (wide * n + wide - wide * n) out ys (numbers e) wide q (omega arith) refl
-    ∙ sym (sets-eq (numbers e) out (wide * n) h)
-
--- one event laid down: no room, or put, which leaves o; k is the room as the callee gives it
-module _ (e : Event) (p : ℕ) (out : List ℕ) (n : ℕ) {k : ℕ} (ke : k ≡ room out) where
-  abbrev one : Laid
-  one = lay (listing.event e p listing.end) out n
-
-  abbrev fits : Bool → Laid
-  fits y = cond y (laid (Done (n + 1)) (put out n e)) (laid (Stopped 12 p n) out)
-
-  pub no_room : k ≤ n → one ≡ laid (Stopped 12 p n) out
-  unfolding lay
-  no_room h = ap fits (le-ltb n (room out) (omega arith))
-
-  pub put-down : {o : List ℕ} → n < k → o ≡ put out n e → one ≡ laid (Done (n + 1)) o
-  unfolding lay
-  put-down h oe = ap fits (lt-ltb n (room out) (omega arith)) ∙ ap (λ (q : List ℕ). laid (Done (n + 1)) q) (sym oe)
+put_stores out n e =
+    run-of-stores out (wide * n) e.code (e.depth ∷ e.position ∷ e.key.start ∷ e.key.len ∷ e.part.start ∷ e.part.len ∷ e.extra ∷ e.parent ∷ [])

@@ -150,12 +150,21 @@ impl Event {
     }
 
     // Lays it into a list as the n-th event.
-    #[tactic(auto, using(crate::proofs::Cases::put_part))]
+    #[tactic(auto, using(crate::proofs::Cases::put_stores))]
     pub fn put(self, out: &mut [u32], n: usize)
         requires { wide * n + wide ≤ length out.old }
         ensures { out.new ≡ put out.old n self }
     {
-        out[WIDE * n..WIDE * n + WIDE].copy_from_slice(&self.numbers());
+        let at = WIDE * n;
+        out[at] = self.code;
+        out[at + 1] = self.depth;
+        out[at + 2] = self.position;
+        out[at + 3] = self.key.start;
+        out[at + 4] = self.key.len;
+        out[at + 5] = self.part.start;
+        out[at + 6] = self.part.len;
+        out[at + 7] = self.extra;
+        out[at + 8] = self.parent;
     }
 }
 

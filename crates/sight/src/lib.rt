@@ -104,6 +104,7 @@ fn opaque(w: Window<'_>) -> Result<Sight, Refusal>
 }
 
 // The value of a type that stands there, which is not the document's first byte.
+#[inline(always)]
 #[tactic(auto, using(crate::proofs::Numbers::number_shown), unfolding(content::specs::Reading::content_at, content::specs::Reading::string_at, events::specs::Events::kind_code))]
 fn shown(w: Window<'_>, t: JsonbType) -> Result<Sight, Refusal>
     requires { 1 ≤ w.at }
