@@ -1,25 +1,27 @@
 // The parts of a request, a line of words with one space between two: where a byte stands, and the number that decimal digits write.
 #![tactic(auto)]
 
-ghost use Rattle.std.specs.Prelude.{◌≡◌, ◌==◌, ◌+◌, ◌-◌, ◌≤◌, not, length, drop};
+ghost use Rattle.std.specs.Prelude.{◌≡◌, ◌==◌, ◌+◌, ◌≤◌, not, length, drop};
 ghost use Rattle.std.specs.List.{prefix_len};
 ghost use Rattle.request.specs.Find.{before};
 ghost use Rattle.request.specs.Number.{number_of};
 
-// How many bytes from a place on stand before the first such byte.
-fn before(text: &[u8], from: usize, byte: u8) -> usize
-    ensures value { result ≡ prefix_len (λ b. not (b == byte)) (drop from text.now) }
-    ensures within { result ≤ length text.now - from }
+// How many bytes stand before the first such byte.
+fn before(text: &[u8], byte: u8) -> usize
+    ensures value { result ≡ prefix_len (λ b. not (b == byte)) text.now }
+    ensures within { result ≤ length text.now }
 {
-    text.iter().skip(from).take_while(|b| **b != byte).count()
+    text.iter().take_while(|b| **b != byte).count()
 }
 
 // The place of the first such byte at or past a place, else the text's end; the place itself where it is past that.
-#[tactic(auto, using(crate::proofs::Scan::before_prefix))]
 pub fn find(text: &[u8], from: usize, byte: u8) -> usize
     ensures { result ≡ from + before byte (drop from text.now) }
 {
-    from + before(text, from, byte)
+    match text.get(from..) {
+        Some(rest) => from + before(rest, byte),
+        None => from,
+    }
 }
 
 // The number that one or more digits write; zeros in front do not matter.
