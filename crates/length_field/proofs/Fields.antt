@@ -38,14 +38,6 @@ onto low unit k (got v j) = got (low + unit * v) (k + j)
 onto low unit k short = short
 onto low unit k long = long
 
-onto-none : (g : Groups) → g ≡ onto 0 1 0 g
-onto-none (got v j) =
-    let e : v ≡ 0 + 1 * v = omega arith in
-    let f : j ≡ 0 + j = omega arith in
-    cc
-onto-none short = refl
-onto-none long = refl
-
 onto-above : (low unit k x : ℕ) (g : Groups) → onto low unit k (above x g) ≡ onto (low + unit * x) (unit * 128) (k + 1) g
 onto-above low unit k x (got v j) =
     let e : low + unit * (x + 128 * v) ≡ low + unit * x + unit * 128 * v = omega arith in
@@ -56,9 +48,6 @@ onto-above low unit k x long = refl
 
 abbrev pub Passed : List ℕ → ℕ → ℕ → ℕ → ℕ → ℕ → Type 0
 Passed doc at end low unit k = groups 5 (slice at end doc) ≡ onto low unit k (groups (5 - k) (drop k (slice at end doc)))
-
-pub passed_none : (doc : List ℕ) (at end : ℕ) → Passed doc at end 0 1 0
-passed_none doc at end = onto-none (groups 5 (slice at end doc))
 
 module _ (doc : List ℕ) (at end low unit k : ℕ) (p : Passed doc at end low unit k) where
   pub cut-here : k < 5 → min end (length doc) - at ≤ k → Err refusal.Cut ≡ length_at doc at end

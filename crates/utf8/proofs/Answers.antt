@@ -12,7 +12,6 @@ use Rattle.rfc3629.proofs.Grammar as grammar
 use Rattle.rfc3629.proofs.Place as place
 use Rattle.rfc3629.proofs.Counted.{counted}
 use Rattle.std.specs.Prelude.{Ok, Err}
-use Rattle.utf8.specs.declared.Utf8Error.{Utf8Error}
 use Rattle.utf8.specs.Answer.{Check, good, bad_at, Tells, answer, checked, counted_from}
 
 -- an answer names its verdict

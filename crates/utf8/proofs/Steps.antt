@@ -3,19 +3,19 @@
 -- Assumes nothing.
 use Prim.Native.Nat.{ℕ, suc, ◌+◌, ◌≤◌, ◌<◌}
 use mathlib.Core.Path.{◌≡◌, refl, sym, ap, ◌∙◌, subst}
-use mathlib.Core.Bool.{Bool, true, false, not}
+use mathlib.Core.Bool.{true, false}
 use mathlib.Core.List.{List, [], ◌∷◌}
 use native.Mathlib.Nat.{add-zero}
 use native.Mathlib.Numerals.{add-one}
 use native.Mathlib.Omega.{arith}
-use lib.Dec.{ltb, leb}
+use lib.Dec.{ltb}
 use lib.ListN.{length, get_or, drop, drop_of_length-le}
 use lib.Seq.{drop-cons, drop-drop}
-use borrow.Author.Tests.{ltb-true, ltb-false, leb-true, leb-false, eq-eqb, ne_eqb, not-true, not-false}
+use borrow.Author.Tests.{ltb-true, ltb-false}
 use Rattle.ascii.specs.Ascii.{low, ascii_end, front}
 use Rattle.ascii.proofs.Low.{by, low-yes, low-no, front-le}
-use Rattle.rfc3629.specs.Machine.{State, start, more, to, stop, bad, least, most, lead, follow, next, ended, run}
-use Rattle.rfc3629.proofs.Steps.{enter, halt, below, above, inside, lead1, lead3, lead4}
+use Rattle.rfc3629.specs.Machine.{State, start, more, to, stop, bad, lead, follow, next, ended, run}
+use Rattle.rfc3629.proofs.Steps.{enter, halt, below, above, inside, lead1}
 use Rattle.utf8.specs.Course.{Runs}
 
 no : {A : Type 0} → false ≡ true → A
@@ -107,14 +107,6 @@ pub record After (s : List ℕ) (at j : ℕ) (st : State) : Type 0 where
 
 pub begun : (s : List ℕ) (at : ℕ) {st : State} → at < length s → lead (get_or s at 0) ≡ to st → After s at 1 st
 begun s at {st} h l = record { same = step start s at st (at + 1) refl h l }
-
--- the first byte of three or four asks for a range
-module _ (s : List ℕ) (at lo hi : ℕ) (h : at < length s) where
-  pub begun_three : 224 ≤ get_or s at 0 → get_or s at 0 < 240 → (lo ≡ least (get_or s at 0) 224 160) × (hi ≡ most (get_or s at 0) 237 159) → After s at 1 (more 1 lo hi)
-  begun_three f g e = rw (e.0, e.1) (begun s at h (lead3 (get_or s at 0) f g))
-
-  pub begun_four : 240 ≤ get_or s at 0 → get_or s at 0 ≤ 244 → (lo ≡ least (get_or s at 0) 240 144) × (hi ≡ most (get_or s at 0) 244 143) → After s at 1 (more 2 lo hi)
-  begun_four f g e = rw (e.0, e.1) (begun s at h (lead4 (get_or s at 0) f (omega arith)))
 
 -- the next byte is in its range
 pub onto : {j k lo hi : ℕ} {s : List ℕ} {at : ℕ} → After s at j (more k lo hi) → (at + j < length s) × (lo ≤ get_or s (at + j) 0) × (get_or s (at + j) 0 ≤ hi) → After s at (j + 1) (follow k)

@@ -27,22 +27,23 @@ fn need(s: &[u8], at: usize, lo: u8, hi: u8) -> Result<(), Utf8Error>
     }
 }
 
-// The range of a second byte behind the first byte of a character of three bytes or of four.
-fn second(b: u8) -> (u8, u8)
+// A second byte has to stand there that may follow the first byte `b` of a character of three bytes or of four.
+fn second(s: &[u8], at: usize, b: u8) -> Result<(), Utf8Error>
     requires { 224 ≤ b }
-    ensures three { b < 240 → (result.0 ≡ least b 224 160) × (result.1 ≡ most b 237 159) }
-    ensures four { 240 ≤ b → (result.0 ≡ least b 240 144) × (result.1 ≡ most b 244 143) }
+    ensures three { b < 240 → Takes (least b 224 160) (most b 237 159) s.now at result }
+    ensures four { 240 ≤ b → Takes (least b 240 144) (most b 244 143) s.now at result }
 {
     match b {
-        224 => (160, 191),
-        237 => (128, 159),
-        240 => (144, 191),
-        244 => (128, 143),
-        _ => (128, 191),
+        224 => need(s, at, 160, 191),
+        237 => need(s, at, 128, 159),
+        240 => need(s, at, 144, 191),
+        244 => need(s, at, 128, 143),
+        _ => need(s, at, 128, 191),
     }
 }
 
-// Past a character of two bytes, whose first byte is from 80 to DF.
+// Past a character of two bytes, whose first byte is from 80 to DF. These four are part of the loop: a call takes as long as a character.
+#[inline(always)]
 fn past_two(s: &[u8], at: usize) -> Result<usize, Utf8Error>
     requires at_in_bounds { at < length s.now }
     requires bound { (128 ≤ get_or s.now at 0) × (get_or s.now at 0 < 224) }
@@ -56,18 +57,19 @@ fn past_two(s: &[u8], at: usize) -> Result<usize, Utf8Error>
 }
 
 // Past one of three bytes, whose first byte is from E0 to EF.
+#[inline(always)]
 fn past_three(s: &[u8], at: usize) -> Result<usize, Utf8Error>
     requires at_in_bounds { at < length s.now }
     requires bound { (224 ≤ get_or s.now at 0) × (get_or s.now at 0 < 240) }
     ensures { Leads (at + 1) s.now at result }
 {
-    let (lo, hi) = second(s[at]);
-    need(s, at + 1, lo, hi)?;
+    second(s, at + 1, s[at])?;
     need(s, at + 2, 128, 191)?;
     Ok(at + 3)
 }
 
 // Past one of four bytes, whose first byte is F0 or above.
+#[inline(always)]
 fn past_four(s: &[u8], at: usize) -> Result<usize, Utf8Error>
     requires at_in_bounds { at < length s.now }
     requires bound { 240 ≤ get_or s.now at 0 }
@@ -76,14 +78,14 @@ fn past_four(s: &[u8], at: usize) -> Result<usize, Utf8Error>
     if 244 < s[at] {
         return Err(Utf8Error { place: at });
     }
-    let (lo, hi) = second(s[at]);
-    need(s, at + 1, lo, hi)?;
+    second(s, at + 1, s[at])?;
     need(s, at + 2, 128, 191)?;
     need(s, at + 3, 128, 191)?;
     Ok(at + 4)
 }
 
 // Past one character.
+#[inline(always)]
 fn past_char(s: &[u8], at: usize) -> Result<usize, Utf8Error>
     requires { at < length s.now }
     ensures { Leads (at + 1) s.now at result }
