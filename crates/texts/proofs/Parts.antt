@@ -11,18 +11,17 @@ use borrow.Author.Tests.{le-ltb, lt-ltb}
 use Rattle.std.specs.Prelude.{Result, Ok, Err, ⊤}
 use Rattle.rfc3629.specs.Machine.{Verdict, ok, bad, run, verdict, verdict_from, plus}
 use Rattle.rfc3629.proofs.Counted.{counted}
-use Rattle.utf8.specs.Answer.{Tells, answer as check_answer, checked}
-use Rattle.utf8.specs.declared.Utf8Check.{Utf8Check}
-use Rattle.utf8.specs.declared.Utf8Check.TheVariants.{Valid, Bad}
+use Rattle.utf8.specs.Answer.{Tells, Check, bad_at, answer as check_answer, checked}
+use Rattle.utf8.specs.declared.Utf8Error.{Utf8Error}
 use Rattle.utf8.proofs.Answers.{breaks-within}
 use Rattle.value.specs.declared.Span.{Span}
 use Rattle.events.specs.Events.{no_key}
 use Rattle.events.specs.Text.{bytes, answer, text_at}
 
 -- the answer of bytes that start at a place, by that of their check
-abbrev from_check : ℕ → Utf8Check → Result ⊤ ℕ
-from_check start Valid = Ok _
-from_check start (Bad p) = Err (start + p)
+abbrev from_check : ℕ → Check → Result ⊤ ℕ
+from_check start (Ok u) = Ok _
+from_check start (Err e) = Err (start + e.place)
 
 module _ (d : List ℕ) (s : Span) where
   abbrev end : ℕ
@@ -32,7 +31,7 @@ module _ (d : List ℕ) (s : Span) where
   unfolding text_at
   outside h = ap (λ (b : Bool). cond b (Err s.start) (answer (verdict_from s.start (bytes d s)))) (sym (lt-ltb (length d) end h))
 
-  module _ (h : end ≤ length d) {r : Utf8Check} (re : r ≡ checked (take (end - s.start) (drop s.start d))) where
+  module _ (h : end ≤ length d) {r : Check} (re : r ≡ checked (take (end - s.start) (drop s.start d))) where
     pub inside : from_check s.start r ≡ text_at d s
     unfolding text_at
     inside =
@@ -47,8 +46,8 @@ module _ (d : List ℕ) (s : Span) where
         by (bad p) = refl
 
 -- a break of bytes is no further than they are long
-pub near : (bs : List ℕ) (p : ℕ) {r : Utf8Check} → r ≡ Bad p → Tells bs r → p ≤ length bs
-near bs p q t = breaks-within ((t.broken p).0 q)
+pub near : (bs : List ℕ) (e : Utf8Error) {r : Check} → r ≡ Err e → Tells bs r → e.place ≤ length bs
+near bs e q t = breaks-within ((t.broken e.place).0 q)
 
 pub length_taken : (n i : ℕ) (d : List ℕ) → length (take n (drop i d)) ≤ length d
 length_taken n i d = omega (arith, length-take n (drop i d), length-drop i d)

@@ -4,7 +4,6 @@
 ghost use Rattle.std.specs.Prelude.{◌≡◌};
 ghost use Rattle.events.specs.Text.{text_at};
 
-use utf8::Utf8Check;
 use value::Span;
 
 // Whether a part of the document is UTF-8, and where it breaks, counted from the document's first byte: at the first byte that cannot begin or continue a
@@ -18,7 +17,7 @@ pub fn text_check(doc: &[u8], s: Span) -> Result<(), usize>
         return Err(start);
     }
     match utf8::utf8_check(&doc[start..end]) {
-        Utf8Check::Valid => Ok(()),
-        Utf8Check::Bad(p) => Err(start + p),
+        Ok(()) => Ok(()),
+        Err(e) => Err(start + e.place),
     }
 }

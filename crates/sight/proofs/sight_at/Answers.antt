@@ -29,4 +29,4 @@ returns c =
     record { order = omega (arith, c.in_ok-new.field-0.ordered, q.1, q.2); inside = omega (arith, c.in_ok-new.field-0.inside, l, q.2); short = omega (arith, c.in_ok-new.field-0.short, l) } in
     c.shown-2.ensures
     ∙ pointed-right c.args.doc.now c.args.large c.args.start c.args.size c.args.place c.offset_size.ensures.value c.saturating_add-next.ensures (omega arith) w
-    (sym c.try_from.ensures ∙ c.in_ok-t.was) (sym c.is_inlined.ensures ∙ c.if-is_inlined.false) c.offset.ensures c.if-at-next.false c.if-end-at.false
+    (sym c.try_from.ensures ∙ c.in_ok-t.was) (sym c.is_inlined.ensures ∙ c.if-is_inlined.false) c.offset.ensures (omega arith) (omega arith)
