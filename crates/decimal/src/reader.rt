@@ -1,6 +1,6 @@
 // From groups to a decimal.
 ghost use Rattle.std.specs.Prelude.{◌≡◌};
-ghost use Rattle.decimal.specs.Read.{negative as is_negative, nought, decimal_of, or_nought, finished};
+ghost use Rattle.decimal.specs.Read.{negative as is_negative, decimal_of, or_nought, finished};
 
 use super::Decimal;
 use groups::Parts;

@@ -1,4 +1,4 @@
--- Bytes there and back: flipping and inverting undo themselves, and the first bit tells the sign. A byte's own laws are tests at all 256.
+-- Bytes there and back: flipping and inverting undo themselves, and the first bit tells the sign.
 -- Assumes nothing.
 use mathlib.Core.Path.{◌≡◌, refl, ap, ◌∙◌}
 use mathlib.Core.Bool.{Bool, true, false}
@@ -6,33 +6,32 @@ use mathlib.Core.List.{List, [], ◌∷◌, ◌++◌, map, map-append}
 use Prim.Native.Nat.{ℕ, zero, suc, ◌<◌}
 use native.Mathlib.Nat.{not-suc-le-zero}
 use native.Mathlib.Omega.{arith}
-use lib.Dec.{eqb, ltb, leb, eqb→eq, ltb→lt, leb→le}
+use lib.Dec.{ltb}
 use lib.ListN.{length, get_or, take, length-map}
-use borrow.Author.Tests.{le-ltb, lt-ltb}
 use Rattle.groups.specs.Numbers.{Below}
 use Rattle.groups.specs.Layout.{form_of}
 use Rattle.groups.specs.Packed.{flip, flip_first, invert, bytes_of, digits_in}
-use Rattle.groups.proofs.Finite.{at}
+use Rattle.std.proofs.lemmas.Bool.Decides.{nat_tests}
 use Rattle.groups.proofs.Marks.{flip-front, length-flip}
 use Rattle.decimal.specs.Read.{negative}
 
 -- ---- one byte
 flip-flip : (b : ℕ) → b < 256 → flip (flip b) ≡ b
 unfolding flip
-flip-flip b h = eqb→eq _ _ (at (λ b. eqb (flip (flip b)) b) 256 tt b h)
+flip-flip b h = grind (arith, nat_tests)
 
 flip-lt : (b : ℕ) → b < 256 → flip b < 256
 unfolding flip
-flip-lt b h = ltb→lt _ _ (at (λ b. ltb (flip b) 256) 256 tt b h)
+flip-lt b h = grind (arith, nat_tests)
 
 -- a first digit below 128 has its first bit set, plain, and clear, inverted
 plain-sign : (b : ℕ) → b < 128 → ltb (flip b) 128 ≡ false
 unfolding flip
-plain-sign b h = le-ltb (flip b) 128 (leb→le 128 (flip b) (at (λ b. leb 128 (flip b)) 128 tt b h))
+plain-sign b h = grind (arith, nat_tests)
 
 inverted-sign : (b : ℕ) → b < 128 → ltb (flip (invert b)) 128 ≡ true
 unfolding flip
-inverted-sign b h = lt-ltb (flip (invert b)) 128 (ltb→lt (flip (invert b)) 128 (at (λ b. ltb (flip (invert b)) 128) 128 tt b h))
+inverted-sign b h = grind (arith, nat_tests)
 
 invert-invert : (b : ℕ) → b < 256 → invert (invert b) ≡ b
 invert-invert b h = omega arith

@@ -1,14 +1,15 @@
 -- Every decimal that is answered is well formed: its groups were read in range, those that are left keep their digits, and its sign is that of its value.
 -- Assumes nothing.
-use mathlib.Core.Path.{◌≡◌, refl, sym, ap, ◌∙◌}
+use mathlib.Core.Path.{◌≡◌, refl, sym, ◌∙◌}
 use mathlib.Core.Bool.{Bool, true, false, cond}
+use mathlib.Core.Logic.{⊎_elim}
 use mathlib.Core.List.{List, [], ◌∷◌, ◌++◌}
 use Prim.Native.Nat.{ℕ, suc, ◌+◌, ◌-◌, ◌*◌, ◌≤◌, ◌<◌}
 use native.Mathlib.Nat.{zero-mod, zero-div, pos_of_ne-zero}
 use native.Mathlib.Omega.{arith}
 use lib.Dec.{ltb, eqb, lit<}
 use lib.ListN.{length, get_or, drop, length-append, length-map, get_or-eq_default}
-use borrow.Author.Tests.{ltb-true, ltb-false, lt-ltb, le-ltb, leb-true, eqb-false}
+use borrow.Author.Tests.{lt-ltb, leb-true, eqb-false}
 use Rattle.std.specs.Prelude.{Result, Ok, Err}
 use Rattle.refusal.specs.declared.Refusal.{Refusal}
 use Rattle.refusal.specs.declared.Refusal.TheVariants as refusal
@@ -18,7 +19,9 @@ use Rattle.groups.specs.Packed.{digits_in}
 use Rattle.groups.specs.Read.{unit_of, range_at, stored_at}
 use Rattle.groups.specs.Sign.{signed_nought}
 use Rattle.groups.specs.Write.{digits_ok, well_at, well_groups, well_formed}
+use Rattle.std.proofs.lemmas.Bool.Decides.{nat_tests}
 use Rattle.groups.proofs.Accept.{both_true, in-range}
+use Rattle.groups.proofs.Caps.{below_or_not}
 use Rattle.groups.proofs.Marks.{length-in}
 use Rattle.groups.proofs.Opened.{digits-range}
 use Rattle.groups.proofs.Sizes.{digits-size}
@@ -69,21 +72,11 @@ module _ (i f z : ℕ) (h : 1 ≤ z) (l : z ≤ groups_of i) where
       nine (left i z) (groups_of i - z - 1 - k) (omega arith) ∙ sym (nine i (groups_of i - 1 - (k + z)) (omega arith))
 
   later-side : (k : ℕ) → ltb k (groups_of (left i z)) ≡ ltb (k + z) (groups_of i)
-  later-side k = rw (whole-groups (groups_of i - z)) (go (ltb (k + z) (groups_of i)) refl)
-    where
-      go : (t : Bool) → ltb (k + z) (groups_of i) ≡ t → ltb k (groups_of i - z) ≡ t
-      go true e = let m = ltb-true (k + z) (groups_of i) e in lt-ltb k (groups_of i - z) (omega arith)
-      go false e = let m = ltb-false (k + z) (groups_of i) e in le-ltb k (groups_of i - z) (omega arith)
+  later-side k = rw (whole-groups (groups_of i - z)) (grind (arith, nat_tests))
 
   later-digits : (k : ℕ) → digits_at (left i z) f k ≡ digits_at i f (k + z)
   unfolding digits_at
-  later-digits k = rw (later-side k, whole-groups (groups_of i - z)) (go (ltb (k + z) (groups_of i)) refl)
-    where
-      go : (t : Bool) → ltb (k + z) (groups_of i) ≡ t
-          → cond t (side (left i z) (groups_of i - z - 1 - k)) (side f (k - (groups_of i - z)))
-          ≡ cond t (side i (groups_of i - 1 - (k + z))) (side f (k + z - groups_of i))
-      go true e = whole-left k (ltb-true _ _ e)
-      go false e = ap (side f) (omega arith)
+  later-digits k = rw (later-side k, whole-groups (groups_of i - z)) (grind (arith, nat_tests, whole-left k))
 
   later-well : (k g : ℕ) → well_at (left i z) f k g ≡ well_at i f (k + z) g
   unfolding well_at unit_of
@@ -124,11 +117,7 @@ module _ (i f : ℕ) (gs : List ℕ) (n : length gs ≡ 9) where
   module _ (l : i + f ≤ 65) (m : f ≤ 30) (w : (k : ℕ) → k < 9 → well_at i f k (get_or gs k 0) ≡ true) where
     -- past the last place there is a 0
     each-place : (k : ℕ) → well_at i f k (get_or gs k 0) ≡ true
-    each-place k = go (ltb k 9) refl
-      where
-        go : (t : Bool) → ltb k 9 ≡ t → well_at i f k (get_or gs k 0) ≡ true
-        go true e = w k (ltb-true k 9 e)
-        go false e = rw (get_or-eq_default gs 0 {n = k} (rw n (ltb-false k 9 e))) (zero-well i f k)
+    each-place k = ⊎_elim (w k) (λ (l : 9 ≤ k). rw (get_or-eq_default gs 0 {n = k} (rw n l)) (zero-well i f k)) (below_or_not k 9)
 
     later-formed : (z : ℕ) → 1 ≤ z → z ≤ groups_of i → 1 ≤ left i z + f → well_groups (left i z) f (later z gs) ≡ true
     later-formed z a b c =

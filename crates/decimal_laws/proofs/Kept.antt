@@ -20,6 +20,7 @@ use Rattle.groups.specs.Layout.{width, groups_of, side, form_of, wide_of, digits
 use Rattle.groups.specs.Packed.{digits_in}
 use Rattle.groups.specs.Read.{group_at, stored_at, read_groups}
 use Rattle.groups.specs.Sign.{is_nought, below_zero}
+use Rattle.std.proofs.lemmas.Bool.Decides.{nat_tests}
 use Rattle.groups.proofs.Accept.{in-range}
 use Rattle.groups.proofs.Tab.{tab-at, length-tab, filled}
 use Rattle.groups.proofs.Opened.{opened}
@@ -37,22 +38,13 @@ pub leading_le : (n : ℕ) (gs : List ℕ) → leading_in n gs ≤ n
 unfolding leading_in
 leading_le zero gs = omega arith
 leading_le (suc n) [] = omega arith
-leading_le (suc n) (x ∷ xs) = go (eqb x 0) (leading_le n xs)
-  where
-    go : (t : Bool) → leading_in n xs ≤ n → cond t (suc (leading_in n xs)) 0 ≤ suc n
-    go true l = omega arith
-    go false l = omega arith
+leading_le (suc n) (x ∷ xs) = grind (arith, nat_tests, leading_le n xs)
 
 leading_zeros : (n : ℕ) (gs : List ℕ) → replicate (leading_in n gs) 0 ++ drop (leading_in n gs) gs ≡ gs
 unfolding leading_in
 leading_zeros zero gs = refl
 leading_zeros (suc n) [] = refl
-leading_zeros (suc n) (x ∷ xs) = go (eqb x 0) refl (leading_zeros n xs)
-  where
-    go : (t : Bool) → eqb x 0 ≡ t → replicate (leading_in n xs) 0 ++ drop (leading_in n xs) xs ≡ xs
-        → replicate (cond t (suc (leading_in n xs)) 0) 0 ++ drop (cond t (suc (leading_in n xs)) 0) (x ∷ xs) ≡ x ∷ xs
-    go true q h = rw (eqb-true x 0 q, h)
-    go false q h = refl
+leading_zeros (suc n) (x ∷ xs) = grind (arith, nat_tests, leading_zeros n xs)
 
 leading-number : (b n : ℕ) (gs : List ℕ) → number b (drop (leading_in n gs) gs) ≡ number b gs
 leading-number b n gs = sym (zeros-before b (leading_in n gs) (drop (leading_in n gs) gs)) ∙ ap (number b) (leading_zeros n gs)

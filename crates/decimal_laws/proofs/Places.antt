@@ -1,20 +1,21 @@
 -- What stands at each group's place in the digits of all groups, and that it is what was written there.
 -- Assumes nothing.
 use mathlib.Core.Path.{◌≡◌, refl, sym, ap, ◌∙◌}
-use mathlib.Core.Bool.{Bool, true, false, cond}
+use mathlib.Core.Bool.{Bool, true, false}
 use mathlib.Core.Logic.{⊎_elim}
 use mathlib.Core.List.{List, [], ◌∷◌, ◌++◌}
-use Prim.Native.Nat.{ℕ, zero, suc, ◌+◌, ◌-◌, ◌*◌, ◌/◌, ◌%◌, ◌^◌, ◌≤◌, ◌<◌, min}
+use Prim.Native.Nat.{ℕ, zero, suc, ◌+◌, ◌-◌, ◌*◌, ◌/◌, ◌%◌, ◌^◌, ◌≤◌, ◌<◌}
 use native.Mathlib.Nat.{not-suc-le-zero, le_of_suc-le-suc, eq-or-lt_of_le, pow-zero, pow-suc, div-add-mod', div-lt_iff_lt-mul, lt_of_lt_of_le, mul-one, mul_assoc, mod-le, le_of_eq, le_refl}
 use native.Mathlib.Omega.{arith}
-use lib.Dec.{ltb, lit<}
+use lib.Dec.{lit<}
 use lib.ListN.{length, get_or, take, drop, length-drop, get_or-append}
 use lib.Seq.{take-append-le, drop-append-le, take_all, drop_at, get_or-take}
-use borrow.Author.Tests.{ltb-true, ltb-false, eqb-true, lt-ltb}
+use borrow.Author.Tests.{ltb-true, eqb-true, lt-ltb}
 use Rattle.groups.specs.Numbers.{number, digits, all}
 use Rattle.groups.specs.Layout.{width, groups_of, side, form_of, base_of, wide_of, digits_at, offset, size_in, Form, Plain, Inverted, Digits}
 use Rattle.groups.specs.Read.{group_at, range_at, stored_at, unit_of}
 use Rattle.groups.specs.Write.{group_digits, digits_to, well_at, well_groups, digits_ok}
+use Rattle.std.proofs.lemmas.Bool.Decides.{nat_tests}
 use Rattle.groups.proofs.Accept.{both_true}
 use Rattle.groups.proofs.Tab.{all-each}
 use Rattle.groups.proofs.Radix.{number_digits, length_digits}
@@ -125,11 +126,7 @@ module _ (F : Form) (i f : ℕ) (gs : List ℕ) (k : ℕ) (m : k < 9) (w : well_
 -- the first place of a decimal has a digit
 first-place : (i f : ℕ) → 1 ≤ i + f → 1 ≤ digits_at i f 0
 unfolding digits_at side groups_of
-first-place i f h = go (ltb 0 ((i + 8) / 9)) refl
-  where
-    go : (t : Bool) → ltb 0 ((i + 8) / 9) ≡ t → 1 ≤ cond t (min 9 (i - 9 * ((i + 8) / 9 - 1 - 0))) (min 9 (f - 9 * (0 - (i + 8) / 9)))
-    go true e = let l = ltb-true 0 ((i + 8) / 9) e in omega arith
-    go false e = let l = ltb-false 0 ((i + 8) / 9) e in omega arith
+first-place i f h = grind (arith, nat_tests)
 
 width-pos : (d : ℕ) → 1 ≤ d → 1 ≤ width d
 unfolding width

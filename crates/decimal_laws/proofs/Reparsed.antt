@@ -9,9 +9,10 @@ use native.Mathlib.Omega.{arith}
 use lib.Dec.{eqb, lit<}
 use lib.ListN.{length, get_or, take, drop, length-map}
 use lib.Seq.{take_at, drop_at}
-use borrow.Author.Tests.{le-leb, eq-eqb, ne_eqb, eqb-true, eqb-false}
+use borrow.Author.Tests.{le-leb, eq-eqb, eqb-true}
 use Rattle.std.specs.Prelude.{Ok}
 use Rattle.groups.specs.Numbers.{both, Below}
+use Rattle.std.proofs.lemmas.Bool.Decides.{nat_tests}
 use Rattle.groups.proofs.Accept.{both_true}
 use Rattle.numeral.specs.Read.{strip, minus, unsigned, is_digit, run, pointed, whole_part, fraction_part, is_text, few_digits}
 use Rattle.numeral.specs.Read.{digit_of, digits_in, read_unsigned, read_text}
@@ -20,14 +21,10 @@ use Rattle.decimal_laws.proofs.Trimmed.{Trimmed, trimmed-length, trim-none, bare
 
 -- ---- the character of a digit
 show-digit : (x : ℕ) → x < 10 → is_digit (show x) ≡ true
-show-digit x h = simp (le-leb 48 (x + 48) (omega arith), le-leb (x + 48) 57 (omega arith))
+show-digit x h = grind (arith, nat_tests)
 
 pub show-zero : (x : ℕ) → eqb (show x) 48 ≡ eqb x 0
-show-zero x = go (eqb x 0) refl
-  where
-    go : (t : Bool) → eqb x 0 ≡ t → eqb (show x) 48 ≡ t
-    go true e = let q = eqb-true x 0 e in eq-eqb (x + 48) 48 (omega arith)
-    go false e = let q = eqb-false x 0 e in ne_eqb (x + 48) 48 (λ (p : x + 48 ≡ 48). q (omega arith))
+show-zero x = grind (arith, nat_tests)
 
 pub shown : (xs : List ℕ) → map digit_of (map show xs) ≡ xs
 shown [] = refl
@@ -97,7 +94,7 @@ strip-text true xs ys = strip-minus _
 strip-text false xs ys = strip-shown xs ys
 
 pub no_sign : (x c : ℕ) → c < 48 → eqb (show x) c ≡ false
-no_sign x c h = ne_eqb (x + 48) c (λ (e : x + 48 ≡ c). omega arith)
+no_sign x c h = grind (arith, nat_tests)
 
 minus-text : (neg : Bool) (xs rest : List ℕ) → 1 ≤ length xs → minus (sign_text neg ++ (map show xs ++ rest)) ≡ neg
 unfolding minus

@@ -2,23 +2,26 @@
 -- Assumes nothing.
 use mathlib.Core.Path.{◌≡◌, refl, sym, ap, ◌∙◌}
 use mathlib.Core.Bool.{Bool, true, false, cond, not}
+use mathlib.Core.Logic.{⊎_elim}
 use mathlib.Core.List.{List, [], ◌∷◌, map}
-use Prim.Native.Nat.{ℕ, zero, suc, ◌+◌, ◌-◌, ◌≤◌, ◌<◌}
-use native.Mathlib.Nat.{zero-div, zero-mod, zero-mul, le_trans, le-suc, le_refl, le_of_suc-le-suc, not-suc-le-zero}
+use Prim.Native.Nat.{ℕ, zero, suc, ◌-◌, ◌≤◌, ◌<◌}
+use native.Mathlib.Nat.{zero-div, zero-mod, zero-mul, le_trans, le-suc, le_refl}
 use native.Mathlib.Numerals.{add-one}
 use native.Mathlib.Omega.{arith}
-use lib.Dec.{eqb, ltb, lit<}
+use lib.Dec.{eqb, lit<}
 use lib.ListN.{length, get_or, take, drop, replicate, length-map, length-replicate, get_or-replicate, replicate-append-replicate, get_or-eq_default}
-use lib.Seq.{get_or-drop}
-use borrow.Author.Tests.{eq-eqb, ne_eqb, eqb-true, lt-ltb, ltb-true, ltb-false}
+use borrow.Author.Tests.{eq-eqb, eqb-true}
 use Rattle.groups.specs.Numbers.{digits, both, all, Below}
 use Rattle.groups.specs.Layout.{form_of, wide_of, base_of, digits_at, offset, size_in, Form}
 use Rattle.groups.specs.Packed.{flip, flip_first, invert, bytes_of}
 use Rattle.groups.specs.Read.{group_at, stored_at}
 use Rattle.groups.specs.Sign.{is_nought, below_zero}
 use Rattle.groups.specs.Write.{group_digits, digits_to, well_groups, written}
+use Rattle.std.proofs.lemmas.List.{get_or-map}
+use Rattle.std.proofs.lemmas.Bool.Decides.{nat_tests}
 use Rattle.groups.proofs.Accept.{both_true, well-digits}
-use Rattle.groups.proofs.Caps.{same_test}
+use Rattle.groups.proofs.Caps.{same_test, below_or_not}
+use Rattle.groups.proofs.Opened.{below-take, below-drop}
 use Rattle.groups.proofs.Sign.{nought-of, nought-each}
 use Rattle.groups.proofs.Sizes.{packed-size, size-pos}
 use Rattle.groups.proofs.Store.{length-written, to_below}
@@ -63,29 +66,18 @@ zero_is n =
 -- ---- only digits that are all zero have the bytes of a negative zero
 first-zero : (b : ℕ) → b < 256 → eqb (flip (invert b)) 127 ≡ true → b ≡ 0
 unfolding flip
-first-zero b h e = let q = eqb-true _ _ e in go (ltb (255 - b) 128) refl q
-  where
-    go : (t : Bool) → ltb (255 - b) 128 ≡ t → cond t (255 - b + 128) (255 - b - 128) ≡ 127 → b ≡ 0
-    go true p q = absurd (omega arith)
-    go false p q = let l = ltb-false (255 - b) 128 p in omega arith
-
-invert-at : (ds : List ℕ) (k : ℕ) → k < length ds → get_or (map invert ds) k 0 ≡ invert (get_or ds k 0)
-invert-at [] k l = absurd (not-suc-le-zero l)
-invert-at (d ∷ ds) zero l = refl
-invert-at (d ∷ ds) (suc k) l = invert-at ds k (le_of_suc-le-suc l)
+first-zero b h e = grind (arith, nat_tests)
 
 abbrev ended : List ℕ → Bool
 ended bs = all (length bs) (λ k. eqb (get_or bs k 0) 255)
 
 later-zero : (ds : List ℕ) → Below 256 ds → ended (map invert ds) ≡ true → (k : ℕ) → get_or ds k 0 ≡ 0
-later-zero ds h e k = go (ltb k (length ds)) refl
+later-zero ds h e k = ⊎_elim inside (λ (l : length ds ≤ k). get_or-eq_default ds 0 l) (below_or_not k (length ds))
   where
-    go : (t : Bool) → ltb k (length ds) ≡ t → get_or ds k 0 ≡ 0
-    go false q = get_or-eq_default ds 0 (ltb-false k (length ds) q)
-    go true q =
-        let l = ltb-true k (length ds) q in
+    inside : k < length ds → get_or ds k 0 ≡ 0
+    inside l =
         let a : get_or (map invert ds) k 0 ≡ 255 = eqb-true _ _ (all-each (λ k. eqb (get_or (map invert ds) k 0) 255) (length (map invert ds)) e k (rw (length-map ds invert) l)) in
-        let b = invert-at ds k l in
+        let b = get_or-map invert ds k 0 0 l in
         let c = h k in
         omega arith
 
@@ -99,7 +91,7 @@ inverted-zero (d ∷ ds) h e (suc k) = later-zero ds (λ j. h (suc j)) (both_tru
 plain-none : (ds : List ℕ) → get_or ds 0 0 < 128 → is_negative_zero (bytes_of (form_of false) ds) ≡ false
 unfolding bytes_of flip_first is_negative_zero flip
 plain-none [] h = refl
-plain-none (d ∷ ds) h = simp (lt-ltb d 128 h, ne_eqb (d + 128) 127 (λ (e : d + 128 ≡ 127). omega arith))
+plain-none (d ∷ ds) h = let e : eqb (flip d) 127 ≡ false = grind (arith, nat_tests) in simp e
 
 -- ---- groups
 -- digits that are all zero are those of zero groups
@@ -108,13 +100,9 @@ unfolding stored_at group_at
 none-stored F i f ds h k =
     let w = wide_of F (digits_at i f k) in
     let o = offset F i f k in
-    rw (all-zero (base_of F) (take w (drop o ds)) (λ j l. take-zero w (drop o ds) (λ m. get_or-drop o ds m 0 ∙ h (o + m)) j), zero-mul)
-  where
-    take-zero : (n : ℕ) (xs : List ℕ) → ((j : ℕ) → get_or xs j 0 ≡ 0) → (j : ℕ) → get_or (take n xs) j 0 ≡ 0
-    take-zero zero xs z j = refl
-    take-zero (suc n) [] z j = refl
-    take-zero (suc n) (x ∷ xs) z zero = z 0
-    take-zero (suc n) (x ∷ xs) z (suc j) = take-zero n xs (λ m. z (suc m)) j
+    let b : Below 1 ds = λ j. let e = h j in omega arith in
+    let z : (j : ℕ) → j < length (take w (drop o ds)) → get_or (take w (drop o ds)) j 0 ≡ 0 = λ j l. let s = below-take 1 w (drop o ds) (below-drop 1 o ds b) j in omega arith in
+    rw (all-zero (base_of F) (take w (drop o ds)) z, zero-mul)
 
 module _ (i f : ℕ) (gs : List ℕ) (w : well_groups i f gs ≡ true) where
   -- a decimal has a byte

@@ -1,5 +1,5 @@
 // How many digits and bytes each group has.
-ghost use Rattle.std.specs.Prelude.{◌≡◌, ◌^◌, ◌<◌, ◌≤◌};
+ghost use Rattle.std.specs.Prelude.{◌≡◌, ◌<◌, ◌≤◌};
 ghost use Rattle.groups.specs.Layout.{width, power_of};
 ghost use Rattle.groups.specs.Sides.{sides_of};
 ghost use Rattle.groups.specs.Read.{in_range};

@@ -1,7 +1,7 @@
 // What is left of a decimal's integral digits and groups where its precision is not kept.
 #![tactic(auto)]
 
-ghost use Rattle.std.specs.Prelude.{◌≡◌, ◌+◌, ◌≤◌, length, get_or};
+ghost use Rattle.std.specs.Prelude.{◌≡◌, ◌+◌, ◌≤◌, get_or};
 ghost use Rattle.groups.specs.Numbers.{tab, leading_in};
 ghost use Rattle.kept.specs.Kept.{kept_parts};
 

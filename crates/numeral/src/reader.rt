@@ -1,5 +1,5 @@
 // From text to groups of nine digits.
-ghost use Rattle.std.specs.Prelude.{◌≡◌, ◌+◌, ◌-◌, ◌*◌, ◌^◌, ◌<◌, ◌≤◌, ◌++◌, true, false, length, take, drop, map, MatchOption};
+ghost use Rattle.std.specs.Prelude.{◌≡◌, ◌+◌, ◌-◌, ◌*◌, ◌^◌, ◌<◌, ◌≤◌, ◌++◌, true, false, length, drop, map, MatchOption};
 ghost use Rattle.groups.specs.Numbers.{number, tab};
 ghost use Rattle.groups.specs.Layout.{Digits};
 ghost use Rattle.groups.specs.Read.{stored_at};

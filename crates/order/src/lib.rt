@@ -1,8 +1,7 @@
 // The order of decimals by value, of their signs, digits and groups.
 #![tactic(auto)]
 
-ghost use Rattle.std.specs.Prelude.{◌≡◌, ◌<◌, ◌≤◌, length, get_or};
-ghost use Rattle.groups.specs.Numbers.{number};
+ghost use Rattle.std.specs.Prelude.{◌≡◌};
 ghost use Rattle.groups.specs.Layout.{groups_of};
 ghost use Rattle.order.specs.Value.{magnitude, value, told, order_z, compare_told};
 ghost use Rattle.order.specs.Course.{placed, order_n};

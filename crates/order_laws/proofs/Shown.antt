@@ -1,12 +1,13 @@
 -- The plain text of a printed number is that of its digits without the zeros that do not count, and can be taken apart again: no digit is a point or a minus.
 -- Assumes nothing.
 use mathlib.Core.Path.{◌≡◌, refl, sym, ap, ◌∙◌}
-use mathlib.Core.Bool.{Bool, true, false, cond}
+use mathlib.Core.Bool.{Bool, true, false}
 use mathlib.Core.List.{List, [], ◌∷◌, ◌++◌, map, append-nil, append_cancel_left}
 use Prim.Native.Nat.{ℕ}
+use native.Mathlib.Omega.{arith}
 use lib.Dec.{eqb, lit<}
 use lib.ListN.{get_or, drop}
-use Rattle.groups.specs.Numbers.{both}
+use Rattle.std.proofs.lemmas.Bool.Decides.{nat_tests}
 use Rattle.printing.specs.Print.{show, sign_text}
 use Rattle.numeral.specs.Read.{digit_of}
 use Rattle.decimal_laws.proofs.Reparsed.{tail_of, show-zero, shown, after_tail, no_sign}
@@ -29,12 +30,7 @@ from-shown (x ∷ xs) ys = rw (no_sign x 46 (lit< tt), from-shown xs ys)
 front-shown : (xs : List ℕ) → without_front 48 (map show xs) ≡ map show (without_front 0 xs)
 unfolding without_front
 front-shown [] = refl
-front-shown (x ∷ xs) = rw (show-zero x) (go (eqb x 0) (front-shown xs))
-  where
-    go : (t : Bool) → without_front 48 (map show xs) ≡ map show (without_front 0 xs)
-        → cond t (without_front 48 (map show xs)) (show x ∷ map show xs) ≡ map show (cond t (without_front 0 xs) (x ∷ xs))
-    go true h = h
-    go false h = refl
+front-shown (x ∷ xs) = rw (show-zero x, front-shown xs) (grind (arith, nat_tests))
 
 empty-shown : (xs : List ℕ) → is_empty (map show xs) ≡ is_empty xs
 empty-shown [] = refl
@@ -43,11 +39,7 @@ empty-shown (x ∷ xs) = refl
 end-shown : (xs : List ℕ) → without_end 48 (map show xs) ≡ map show (without_end 0 xs)
 unfolding without_end
 end-shown [] = refl
-end-shown (x ∷ xs) = rw (show-zero x, end-shown xs, empty-shown (without_end 0 xs)) (go (both (eqb x 0) (is_empty (without_end 0 xs))))
-  where
-    go : (t : Bool) → cond t [] (show x ∷ map show (without_end 0 xs)) ≡ map show (cond t [] (x ∷ without_end 0 xs))
-    go true = refl
-    go false = refl
+end-shown (x ∷ xs) = rw (show-zero x, end-shown xs, empty-shown (without_end 0 xs)) (grind (arith, nat_tests))
 
 -- ---- without a last point
 last-shown : (xs rest : List ℕ) → without_last_point (map show xs ++ rest) ≡ map show xs ++ without_last_point rest

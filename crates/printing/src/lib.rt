@@ -2,9 +2,9 @@
 // last of the fraction.
 #![tactic(auto)]
 
-ghost use Rattle.std.specs.Prelude.{◌≡◌, true, ◌∷◌, ◌++◌, map, ◌+◌, ◌-◌, ◌*◌, ◌/◌, ◌%◌, ◌^◌, ◌<◌, ◌≤◌, length, take, drop};
+ghost use Rattle.std.specs.Prelude.{◌≡◌, ◌++◌, map, ◌+◌, ◌-◌, ◌*◌, ◌/◌, ◌%◌, ◌<◌, ◌≤◌, length, take, drop};
 ghost use Rattle.groups.specs.Numbers.{digits};
-ghost use Rattle.groups.specs.Write.{told, well_groups, digits_to, room_told, room_leaves};
+ghost use Rattle.groups.specs.Write.{told, digits_to, room_told, room_leaves};
 ghost use Rattle.groups.specs.Layout.{Digits};
 ghost use Rattle.printing.specs.Print.{show, sign_text, text_of, print_told, print_leaves};
 ghost use Rattle.printing.specs.Course.{nines, whole_text, whole_length, point_text, fraction_length, Significant};

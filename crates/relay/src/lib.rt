@@ -19,8 +19,8 @@ ghost use Rattle.surface.specs.Decimals.{decimal_told, written_told, written_lea
 use decimal::Decimal;
 use layout::Kind;
 use records::{decimal_in, put_answer};
-use rows::put_found;
 use refusal::Refusal;
+use rows::put_found;
 use small_records::{put_compared, put_counted};
 use small_rows::{put_count, put_key, put_walked};
 use time::{MysqlTime, TimeType};

@@ -1,7 +1,7 @@
 // The packed form of a decimal, written from its groups.
 #![tactic(auto)]
 
-ghost use Rattle.std.specs.Prelude.{◌≡◌, true, ◌++◌, ◌+◌, ◌-◌, ◌*◌, ◌<◌, ◌≤◌, length, get_or, drop};
+ghost use Rattle.std.specs.Prelude.{◌≡◌, ◌++◌, ◌+◌, ◌-◌, ◌*◌, ◌<◌, ◌≤◌, length, get_or, drop};
 ghost use Rattle.groups.specs.Numbers.{digits};
 ghost use Rattle.groups.specs.Layout.{size, Plain};
 ghost use Rattle.groups.specs.Sides.{sides_of};
