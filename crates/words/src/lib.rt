@@ -1,6 +1,8 @@
 // What the examples' questions are about.
 #![tactic(auto)]
 
+ghost use Rattle.std.specs.Prelude.{◌≡◌};
+
 use jsonb::{Kind, Value, View};
 use output::HexWord;
 use std::fmt;
@@ -16,7 +18,9 @@ pub struct Container<'a> {
 
 impl<'a> Container<'a> {
     // The document's root; where that is no container, one that no document has.
-    pub fn root(doc: &'a [u8]) -> Container<'a> {
+    pub fn root(doc: &'a [u8]) -> Container<'a>
+        ensures { result.doc.now ≡ doc.now }
+    {
         if let Ok(Value::Container(view)) = jsonb::deserialize(doc) {
             return Container { doc, view };
         }
@@ -34,13 +38,20 @@ impl<'a> Container<'a> {
     }
 
     // Its view in another document.
-    pub fn in_doc<'b>(self, doc: &'b [u8]) -> Container<'b> {
+    pub fn in_doc<'b>(self, doc: &'b [u8]) -> Container<'b>
+        ensures doc { result.doc.now ≡ doc.now }
+        ensures view { result.view ≡ self.entry.view }
+    {
         let view = self.view;
         Container { doc, view }
     }
 
     // Its view with another count.
-    pub fn with_count(self, count: u32) -> Container<'a> {
+    pub fn with_count(self, count: u32) -> Container<'a>
+        ensures doc { result.doc.now ≡ self.entry.doc.now }
+        ensures count { result.view.count ≡ count }
+        ensures rest { (result.view.start ≡ self.entry.view.start) × (result.view.size ≡ self.entry.view.size) × (result.view.kind ≡ self.entry.view.kind) }
+    {
         let doc = self.doc;
         let view = View { count, ..self.view };
         Container { doc, view }
