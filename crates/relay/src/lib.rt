@@ -178,7 +178,7 @@ pub extern "C" fn bratthelm_decimal_write_bin(
     ensures relays { Relays 1 (written_told decimal.now bytes.old) answer.old result answer.new }
     ensures bytes_after { bytes.new ≡ written_leaves decimal.now bytes.old answer.old }
 {
-    if answer.is_empty() {
+    if answer.len() < 1 {
         return u32::from(Refusal::Room.number());
     }
     put_counted(answer, decimal_in(decimal).write_bin(bytes))
@@ -194,7 +194,7 @@ pub extern "C" fn bratthelm_decimal_print(
     ensures relays { Relays 1 (printed_told decimal.now text.old) answer.old result answer.new }
     ensures text_after { text.new ≡ printed_leaves decimal.now text.old answer.old }
 {
-    if answer.is_empty() {
+    if answer.len() < 1 {
         return u32::from(Refusal::Room.number());
     }
     put_counted(answer, decimal_in(decimal).print(text))
@@ -219,6 +219,7 @@ fn read_typed(bytes: &[u8], kind: Option<TimeType>) -> Result<MysqlTime, Refusal
 }
 
 // The date or time in its packed form, of the column type with this number.
+#[tactic(auto, unfolding(surface::specs::Times::time_told))]
 #[unsafe(no_mangle)]
 pub extern "C" fn bratthelm_time_read_packed(
     bytes: &[u8],
@@ -238,6 +239,7 @@ fn write_record(time: Option<MysqlTime>, bytes: &mut [u8]) -> Result<(), Refusal
 }
 
 // The packed form of a date or time, into the first eight bytes of a lent slice. There is no answer but the number that is returned.
+#[tactic(auto, unfolding(surface::specs::Times::time_written_told, surface::specs::Times::time_written_leaves))]
 #[unsafe(no_mangle)]
 pub extern "C" fn bratthelm_time_write_packed(time: &[u32], bytes: &mut [u8]) -> u32
     ensures value { result ≡ (time_written_told time.now bytes.old).number }
