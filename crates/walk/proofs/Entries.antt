@@ -33,7 +33,7 @@ use Rattle.sight.proofs.Laws.{sight-entry, entry-sound, entry-fit}
 use Rattle.paths.specs.Judged.{Judged, Stand, spot, text_then, value_judged, key_judged, judged, node, childless}
 use Rattle.paths.specs.Levels.{entry_stand}
 use Rattle.root_event.specs.Root.{leads_to}
-use Rattle.walk.specs.declared.Entry.{Entry}
+use Rattle.walk.specs.declared.Level.{Level}
 use Rattle.walk.specs.Tested.{Fits}
 use Rattle.walk.specs.Course.{seen_text, seen_container, container_in, entry_sight, by_text, by_sight, by_key_text, by_key}
 use Rattle.walk.proofs.Values.{value-refused, value-breaks, value-fits, value-leads}
@@ -41,12 +41,9 @@ use Rattle.walk.proofs.Values.{value-refused, value-breaks, value-fits, value-le
 pub within : (d : List ℕ) (v : View) (i : ℕ) → Fit d v → i < v.count → Within (length d) (key_place_at v i + key_entry v.kind) (end_of v)
 within d v i f h = record { order = omega (arith, key-inside v.kind v.count i h, f.header); inside = f.inside; short = f.short }
 
-module _ (d : List ℕ) (e : Entry) (out : List ℕ) (n : ℕ) where
+module _ (d : List ℕ) (e : Level) (i : ℕ) (out : List ℕ) (n : ℕ) where
   abbrev v : View
   v = e.view
-
-  abbrev i : ℕ
-  i = e.position
 
   abbrev p : ℕ
   p = place_at v i
@@ -64,16 +61,16 @@ module _ (d : List ℕ) (e : Entry) (out : List ℕ) (n : ℕ) where
   at key = spot e.depth i e.parent p key (value_start d v i)
 
   -- the value, by what is seen of it
-  value-laid : (key : Span) → lay (node (value_judged d (at key) (read_said r)) p childless) out n ≡ by_sight d e key p out n (entry_sight d e p)
-  value-laid key = go (sight_of r (value_start d v i)) refl ∙ ap (by_sight d e key p out n) (sym (sight-entry d v i))
+  value-laid : (key : Span) → lay (node (value_judged d (at key) (read_said r)) p childless) out n ≡ by_sight d e i key p out n (entry_sight d e p)
+  value-laid key = go (sight_of r (value_start d v i)) refl ∙ ap (by_sight d e i key p out n) (sym (sight-entry d v i))
     where
       by : (x : Sight) → sight_of r (value_start d v i) ≡ Ok x → (t : Result ⊤ ℕ) → seen_text d x ≡ t →
-          lay (node (value_judged d (at key) (read_said r)) p childless) out n ≡ by_text e key p out n x t
+          lay (node (value_judged d (at key) (read_said r)) p childless) out n ≡ by_text e i key p out n x t
       by x q (Ok u) t = value-fits d out n (at key) r (entry-sound d v i) q t
       by x q (Err b) t = value-breaks d out n (at key) r (entry-sound d v i) q t
 
       go : (y : Result Sight Refusal) → sight_of r (value_start d v i) ≡ y →
-          lay (node (value_judged d (at key) (read_said r)) p childless) out n ≡ by_sight d e key p out n y
+          lay (node (value_judged d (at key) (read_said r)) p childless) out n ≡ by_sight d e i key p out n y
       go (Ok x) q = by x q (seen_text d x) refl
       go (Err f) q = value-refused d out n (at key) r q
 
@@ -96,22 +93,22 @@ module _ (d : List ℕ) (e : Entry) (out : List ℕ) (n : ℕ) where
   abbrev by-text : Span → Result ⊤ ℕ → Laid
   by-text key t = lay (node (text_then t (value_judged d (at key) (read_said r))) p childless) out n
 
-  key-text : (key : Span) (t : Result ⊤ ℕ) → by-text key t ≡ by_key_text d e key p out n t
+  key-text : (key : Span) (t : Result ⊤ ℕ) → by-text key t ≡ by_key_text d e i key p out n t
   unfolding lay
   key-text key (Ok u) = value-laid key
   key-text key (Err b) = refl
 
-  pub element-laid : v.kind.object ≡ false → all ≡ by_sight d e no_key p out n (entry_sight d e p)
+  pub element-laid : v.kind.object ≡ false → all ≡ by_sight d e i no_key p out n (entry_sight d e p)
   element-laid o =
       ap (λ (b : Bool). by-said (cond b (read_said (key_read d v i)) (says no_key))) o
       ∙ ap (by-text no_key) (no-key-text d) ∙ value-laid no_key
 
-  key-laid : (k : Result Span Refusal) → by-said (read_said k) ≡ by_key d e (key_place_at v i) p out n k
+  key-laid : (k : Result Span Refusal) → by-said (read_said k) ≡ by_key d e i (key_place_at v i) p out n k
   unfolding lay
   key-laid (Ok key) = key-text key (text_at d key)
   key-laid (Err g) = refl
 
-  pub member-laid : v.kind.object ≡ true → Fit d v → i < v.count → all ≡ by_key d e (key_place_at v i) p out n (key_of d v (key_place_at v i))
+  pub member-laid : v.kind.object ≡ true → Fit d v → i < v.count → all ≡ by_key d e i (key_place_at v i) p out n (key_of d v (key_place_at v i))
   unfolding key_read key_entry_at
   member-laid o f h =
       ap (λ (b : Bool). by-said (cond b (read_said (key_read d v i)) (says no_key))) o

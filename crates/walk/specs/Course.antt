@@ -16,7 +16,7 @@ use Rattle.events.specs.Walked.{Done, Stopped}
 use Rattle.sight.specs.declared.Sight.{Sight}
 use Rattle.sight.specs.Sights.{sight_at}
 use Rattle.paths.specs.Levels.{children}
-use Rattle.walk.specs.declared.Entry.{Entry}
+use Rattle.walk.specs.declared.Level.{Level}
 
 -- of what is seen, strings alone are text: 12 is their type code
 unfoldable pub seen_text : List ℕ → Sight → Result ⊤ ℕ
@@ -31,29 +31,29 @@ container_in (Ok x) = seen_container x
 container_in (Err r) = None
 
 -- what is seen of an entry at a place, and the event that shows it
-abbrev pub entry_sight : List ℕ → Entry → ℕ → Result Sight Refusal
+abbrev pub entry_sight : List ℕ → Level → ℕ → Result Sight Refusal
 entry_sight d e p = sight_at d e.view.kind.large e.view.start e.view.size p
 
-abbrev pub seen_event : Entry → Span → Sight → Event
-seen_event e key x =
-    record { code = x.code; depth = e.depth; position = e.position; key = key; part = x.part; extra = x.extra; parent = e.parent }
+abbrev pub seen_event : Level → ℕ → Span → Sight → Event
+seen_event e i key x =
+    record { code = x.code; depth = e.depth; position = i; key = key; part = x.part; extra = x.extra; parent = e.parent }
 
--- what is laid of an entry at the place p, as event n: by its text, by what is seen of it, by its key's text, and by its key, whose entry stands at q
-abbrev pub by_text : Entry → Span → ℕ → List ℕ → ℕ → Sight → Result ⊤ ℕ → Laid
-by_text e key p out n x (Ok u) = cond (ltb n (room out)) (laid (Done (n + 1)) (put out n (seen_event e key x))) (laid (Stopped 12 p n) out)
-by_text e key p out n x (Err b) = laid (Stopped 9 b n) out
+-- what is laid of entry i at the place p, as event n: by its text, by what is seen of it, by its key's text, and by its key, whose entry stands at q
+abbrev pub by_text : Level → ℕ → Span → ℕ → List ℕ → ℕ → Sight → Result ⊤ ℕ → Laid
+by_text e i key p out n x (Ok u) = cond (ltb n (room out)) (laid (Done (n + 1)) (put out n (seen_event e i key x))) (laid (Stopped 12 p n) out)
+by_text e i key p out n x (Err b) = laid (Stopped 9 b n) out
 
-abbrev pub by_sight : List ℕ → Entry → Span → ℕ → List ℕ → ℕ → Result Sight Refusal → Laid
-by_sight d e key p out n (Ok x) = by_text e key p out n x (seen_text d x)
-by_sight d e key p out n (Err r) = laid (Stopped (number_of r) p n) out
+abbrev pub by_sight : List ℕ → Level → ℕ → Span → ℕ → List ℕ → ℕ → Result Sight Refusal → Laid
+by_sight d e i key p out n (Ok x) = by_text e i key p out n x (seen_text d x)
+by_sight d e i key p out n (Err r) = laid (Stopped (number_of r) p n) out
 
-abbrev pub by_key_text : List ℕ → Entry → Span → ℕ → List ℕ → ℕ → Result ⊤ ℕ → Laid
-by_key_text d e key p out n (Ok u) = by_sight d e key p out n (entry_sight d e p)
-by_key_text d e key p out n (Err b) = laid (Stopped 9 b n) out
+abbrev pub by_key_text : List ℕ → Level → ℕ → Span → ℕ → List ℕ → ℕ → Result ⊤ ℕ → Laid
+by_key_text d e i key p out n (Ok u) = by_sight d e i key p out n (entry_sight d e p)
+by_key_text d e i key p out n (Err b) = laid (Stopped 9 b n) out
 
-abbrev pub by_key : List ℕ → Entry → ℕ → ℕ → List ℕ → ℕ → Result Span Refusal → Laid
-by_key d e q p out n (Ok key) = by_key_text d e key p out n (text_at d key)
-by_key d e q p out n (Err r) = laid (Stopped (number_of r) q n) out
+abbrev pub by_key : List ℕ → Level → ℕ → ℕ → ℕ → List ℕ → ℕ → Result Span Refusal → Laid
+by_key d e i q p out n (Ok key) = by_key_text d e i key p out n (text_at d key)
+by_key d e i q p out n (Err r) = laid (Stopped (number_of r) q n) out
 
 -- what is below a container that was listed, at event n, with so many levels left
 abbrev pub below : ℕ → List ℕ → ℕ → Option View → Listing

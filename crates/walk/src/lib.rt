@@ -26,11 +26,10 @@ use value::{Span, View};
 // The root and elements of arrays have no key.
 const NO_KEY: Span = Span { start: 0, len: 0 };
 
-// An entry to be listed: its container's view, its position there, its depth, and the index of its container's event.
+// The container whose entries are listed: its view, their depth, and the index of its event.
 #[derive(Clone, Copy)]
-struct Entry {
+struct Level {
     view: View,
-    position: u32,
     depth: u32,
     parent: u32,
 }
@@ -120,18 +119,19 @@ fn list_value(
     doc: &[u8],
     out: &mut [u32],
     n: usize,
-    e: Entry,
+    level: &Level,
+    position: u32,
     key: Span,
     place: usize,
     room: usize,
 ) -> Result<Option<View>, Stopped>
     requires last { Last doc.now out.old n × (room ≡ room_of out.old) }
     requires known { text_at doc.now key ≡ Ok _ }
-    ensures listed { by_sight doc.now e key place out.old n (entry_sight doc.now e place) ≡ laid (listed n result) out.new }
-    ensures leads { MatchResult result (λ u. u ≡ container_in (entry_sight doc.now e place)) (λ s. ⊤) }
+    ensures listed { by_sight doc.now level.now position key place out.old n (entry_sight doc.now level.now place) ≡ laid (listed n result) out.new }
+    ensures leads { MatchResult result (λ u. u ≡ container_in (entry_sight doc.now level.now place)) (λ s. ⊤) }
     ensures last { MatchResult result (λ u. Last doc.now out.new (n + 1)) (λ s. ⊤) }
 {
-    let v = e.view;
+    let v = level.view;
     let x = sight::sight_at(doc, v.kind.large, v.start, v.size, place).map_err(|refusal| stopped(
         refusal, place, n,
     ))?;
@@ -141,12 +141,12 @@ fn list_value(
     }
     let event = Event {
         code: x.code,
-        depth: e.depth,
-        position: e.position,
+        depth: level.depth,
+        position,
         key,
         part: x.part,
         extra: x.extra,
-        parent: e.parent,
+        parent: level.parent,
     };
     event.put(out, n);
     Ok(seen_container(x))
@@ -157,22 +157,23 @@ fn list_element(
     doc: &[u8],
     out: &mut [u32],
     n: usize,
-    e: Entry,
+    level: &Level,
+    position: u32,
     room: usize,
 ) -> Result<Option<View>, Stopped>
-    requires array { e.view.kind.object ≡ false }
+    requires array { level.now.view.kind.object ≡ false }
     requires last { Last doc.now out.old n × (room ≡ room_of out.old) }
-    ensures listed { by_sight doc.now e no_key (place_at e.view e.position) out.old n (entry_sight doc.now e (place_at e.view e.position)) ≡ laid (listed n result) out.new }
-    ensures leads { MatchResult result (λ u. u ≡ container_in (entry_sight doc.now e (place_at e.view e.position))) (λ s. ⊤) }
+    ensures listed { by_sight doc.now level.now position no_key (place_at level.now.view position) out.old n (entry_sight doc.now level.now (place_at level.now.view position)) ≡ laid (listed n result) out.new }
+    ensures leads { MatchResult result (λ u. u ≡ container_in (entry_sight doc.now level.now (place_at level.now.view position))) (λ s. ⊤) }
     ensures last { MatchResult result (λ u. Last doc.now out.new (n + 1)) (λ s. ⊤) }
 {
-    let v = e.view;
+    let v = level.view;
     let k = Kind {
         object: false,
         large: v.kind.large,
     };
-    let place = v.start as usize + k.value_place(v.count, e.position);
-    list_value(doc, out, n, e, NO_KEY, place, room)
+    let place = v.start as usize + k.value_place(v.count, position);
+    list_value(doc, out, n, level, position, NO_KEY, place, room)
 }
 
 // Lists a member of an object: the key's 5, the key's 9, then the value.
@@ -180,28 +181,29 @@ fn list_member(
     doc: &[u8],
     out: &mut [u32],
     n: usize,
-    e: Entry,
+    level: &Level,
+    position: u32,
     room: usize,
 ) -> Result<Option<View>, Stopped>
-    requires object { e.view.kind.object ≡ true }
-    requires fit { Fit doc.now e.view × (e.position < e.view.count) }
+    requires object { level.now.view.kind.object ≡ true }
+    requires fit { Fit doc.now level.now.view × (position < level.now.view.count) }
     requires last { Last doc.now out.old n × (room ≡ room_of out.old) }
-    ensures listed { by_key doc.now e (key_place_at e.view e.position) (place_at e.view e.position) out.old n (key_of doc.now e.view (key_place_at e.view e.position)) ≡ laid (listed n result) out.new }
-    ensures leads { MatchResult result (λ u. u ≡ container_in (entry_sight doc.now e (place_at e.view e.position))) (λ s. ⊤) }
+    ensures listed { by_key doc.now level.now position (key_place_at level.now.view position) (place_at level.now.view position) out.old n (key_of doc.now level.now.view (key_place_at level.now.view position)) ≡ laid (listed n result) out.new }
+    ensures leads { MatchResult result (λ u. u ≡ container_in (entry_sight doc.now level.now (place_at level.now.view position))) (λ s. ⊤) }
     ensures last { MatchResult result (λ u. Last doc.now out.new (n + 1)) (λ s. ⊤) }
 {
-    let v = e.view;
+    let v = level.view;
     let k = Kind {
         object: true,
         large: v.kind.large,
     };
     let start = v.start as usize;
     let end = start + v.size as usize;
-    let at = start + k.key_place(e.position);
+    let at = start + k.key_place(position);
     let key = key_at(Window { doc, at, end }, v).map_err(|refusal| stopped(refusal, at, n))?;
     key_check(doc, out, n, key).map_err(|byte| stopped(Refusal::Utf8, byte, n))?;
-    let place = start + k.value_place(v.count, e.position);
-    list_value(doc, out, n, e, key, place, room)
+    let place = start + k.value_place(v.count, position);
+    list_value(doc, out, n, level, position, key, place, room)
 }
 
 // Lists the elements of an array. That arrays and objects have a walker each, which lead into each other with the levels falling, is document 01's list
@@ -221,19 +223,17 @@ fn walk_array(
     ensures listed { lay (children levels doc.now (from - 1) (Container view)) out.old from ≡ laid (walked result) out.new }
     ensures kept { MatchResult result (λ m. Last doc.now out.new m) (λ s. ⊤) }
 {
-    let parent = (from - 1) as u32;
+    let level = Level {
+        view,
+        depth: 101 - levels,
+        parent: (from - 1) as u32,
+    };
     let mut n = from;
     for position in 0..view.count {
         if levels == 0 {
             return Err(stopped(Refusal::Depth, entry::value_place(view, position), n));
         }
-        let e = Entry {
-            view,
-            position,
-            depth: 101 - levels,
-            parent,
-        };
-        let leads = list_element(doc, out, n, e, room)?;
+        let leads = list_element(doc, out, n, &level, position, room)?;
         n = walk_below(doc, out, n + 1, leads, levels - 1, room)?;
     }
     Ok(n)
@@ -255,19 +255,17 @@ fn walk_object(
     ensures listed { lay (children levels doc.now (from - 1) (Container view)) out.old from ≡ laid (walked result) out.new }
     ensures kept { MatchResult result (λ m. Last doc.now out.new m) (λ s. ⊤) }
 {
-    let parent = (from - 1) as u32;
+    let level = Level {
+        view,
+        depth: 101 - levels,
+        parent: (from - 1) as u32,
+    };
     let mut n = from;
     for position in 0..view.count {
         if levels == 0 {
             return Err(stopped(Refusal::Depth, entry::value_place(view, position), n));
         }
-        let e = Entry {
-            view,
-            position,
-            depth: 101 - levels,
-            parent,
-        };
-        let leads = list_member(doc, out, n, e, room)?;
+        let leads = list_member(doc, out, n, &level, position, room)?;
         n = walk_below(doc, out, n + 1, leads, levels - 1, room)?;
     }
     Ok(n)

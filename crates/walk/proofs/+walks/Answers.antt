@@ -5,15 +5,15 @@ use Rattle.std.proofs.Common.{◌≡◌, refl, ◌+◌, ◌-◌, sym, ap, ◌∙
 use Rattle.refusal.specs.Refusals.{number_of}
 use Rattle.events.specs.Lay.{lay}
 use Rattle.events.proofs.Room.{room-same, room_small}
-use Rattle.walk.specs.declared.Entry.{Entry}
+use Rattle.walk.specs.declared.Level.{Level}
 use Rattle.walk.specs.Course.{below}
 use Rattle.walk.proofs.Entries.{element-laid, member-laid, leads-same, entry-fits}
 use Rattle.walk.proofs.Going.{told, start, over, deep, stopped, stopped-below, on}
 use Rattle.walk.proofs.+walks.Goals as goal
 
 -- ---- the walker of arrays
-pub walk_array-overflow_cast-parent : goal.walk_array-overflow_cast-parent
-walk_array-overflow_cast-parent t c =
+pub walk_array-overflow_cast-level : goal.walk_array-overflow_cast-level
+walk_array-overflow_cast-level t c =
     omega (arith, c.requires.last.0.fits, room_small c.args.out.now)
 
 pub walk_array-loop-position-init : goal.walk_array-loop-position-init
@@ -31,16 +31,16 @@ walk_array-list_element-requires-clause-last t c =
 
 pub walk_array-returns-in_err-leads-clause-listed : goal.walk_array-returns-in_err-leads-clause-listed
 walk_array-returns-in_err-leads-clause-listed t c =
-    let e : Entry = record { view = c.args.view; position = c.loop-position.position; depth = 101 - c.args.levels; parent = c.args.from - 1 } in
+    let e : Level = record { view = c.args.view; depth = 101 - c.args.levels; parent = c.args.from - 1 } in
     let r : c.from_residual.result ≡ Err c.in_err-leads.field-0.0 = search rules in
     rw r
     (stopped c.loop-position.invariant.going c.loop-position-test.true c.if-levels-eq0.false c.requires.array.0
-    (element-laid c.args.doc.now e c.loop-position.out c.loop-position.n c.requires.array.1 ∙ c.in_err-leads.ensures.listed) refl)
+    (element-laid c.args.doc.now e c.loop-position.position c.loop-position.out c.loop-position.n c.requires.array.1 ∙ c.in_err-leads.ensures.listed) refl)
 
 pub walk_array-walk_below-requires : goal.walk_array-walk_below-requires
 walk_array-walk_below-requires t c =
-    let e : Entry = record { view = c.args.view; position = c.loop-position.position; depth = 101 - c.args.levels; parent = c.args.from - 1 } in
-    let u = c.in_ok-leads.ensures.leads ∙ leads-same c.args.doc.now e c.loop-position.out c.loop-position.n in (
+    let e : Level = record { view = c.args.view; depth = 101 - c.args.levels; parent = c.args.from - 1 } in
+    let u = c.in_ok-leads.ensures.leads ∙ leads-same c.args.doc.now e c.loop-position.position c.loop-position.out c.loop-position.n in (
       omega arith,
       (
         (omega arith, entry-fits c.args.doc.now c.args.view c.loop-position.position u),
@@ -50,21 +50,21 @@ walk_array-walk_below-requires t c =
 
 pub walk_array-returns-in_err-n-clause-listed : goal.walk_array-returns-in_err-n-clause-listed
 walk_array-returns-in_err-n-clause-listed t c =
-    let e : Entry = record { view = c.args.view; position = c.loop-position.position; depth = 101 - c.args.levels; parent = c.args.from - 1 } in
-    let u = c.in_ok-leads.ensures.leads ∙ leads-same c.args.doc.now e c.loop-position.out c.loop-position.n in
+    let e : Level = record { view = c.args.view; depth = 101 - c.args.levels; parent = c.args.from - 1 } in
+    let u = c.in_ok-leads.ensures.leads ∙ leads-same c.args.doc.now e c.loop-position.position c.loop-position.out c.loop-position.n in
     let r : c.from_residual-in_err-n.result ≡ Err c.in_err-n.field-0.0 = search rules in
     rw r
     (stopped-below c.loop-position.invariant.going c.loop-position-test.true c.if-levels-eq0.false c.requires.array.0
-    (element-laid c.args.doc.now e c.loop-position.out c.loop-position.n c.requires.array.1 ∙ c.in_ok-leads.ensures.listed) refl u c.in_err-n.ensures.listed refl)
+    (element-laid c.args.doc.now e c.loop-position.position c.loop-position.out c.loop-position.n c.requires.array.1 ∙ c.in_ok-leads.ensures.listed) refl u c.in_err-n.ensures.listed refl)
 
 pub walk_array-loop-position-preserved : goal.walk_array-loop-position-preserved
 walk_array-loop-position-preserved t c =
-    let e : Entry = record { view = c.args.view; position = c.loop-position.position; depth = 101 - c.args.levels; parent = c.args.from - 1 } in
-    let u = c.in_ok-leads.ensures.leads ∙ leads-same c.args.doc.now e c.loop-position.out c.loop-position.n in
+    let e : Level = record { view = c.args.view; depth = 101 - c.args.levels; parent = c.args.from - 1 } in
+    let u = c.in_ok-leads.ensures.leads ∙ leads-same c.args.doc.now e c.loop-position.position c.loop-position.out c.loop-position.n in
     record {
       going =
           on c.loop-position.invariant.going c.loop-position-test.true c.if-levels-eq0.false c.requires.array.0
-          (element-laid c.args.doc.now e c.loop-position.out c.loop-position.n c.requires.array.1 ∙ c.in_ok-leads.ensures.listed) refl u c.in_ok-n.ensures.listed refl (c.walk_below.auto.out ∙ c.list_element.auto.out);
+          (element-laid c.args.doc.now e c.loop-position.position c.loop-position.out c.loop-position.n c.requires.array.1 ∙ c.in_ok-leads.ensures.listed) refl u c.in_ok-n.ensures.listed refl (c.walk_below.auto.out ∙ c.list_element.auto.out);
       last = c.in_ok-n.ensures.kept;
     }
 
@@ -73,8 +73,8 @@ walk_array-returns-clause-listed t c =
     over c.loop-position.invariant.going c.loop-position-test.false
 
 -- ---- the walker of objects
-pub walk_object-overflow_cast-parent : goal.walk_object-overflow_cast-parent
-walk_object-overflow_cast-parent t c =
+pub walk_object-overflow_cast-level : goal.walk_object-overflow_cast-level
+walk_object-overflow_cast-level t c =
     omega (arith, c.requires.last.0.fits, room_small c.args.out.now)
 
 pub walk_object-loop-position-init : goal.walk_object-loop-position-init
@@ -92,16 +92,16 @@ walk_object-list_member-requires-clause-last t c =
 
 pub walk_object-returns-in_err-leads-clause-listed : goal.walk_object-returns-in_err-leads-clause-listed
 walk_object-returns-in_err-leads-clause-listed t c =
-    let e : Entry = record { view = c.args.view; position = c.loop-position.position; depth = 101 - c.args.levels; parent = c.args.from - 1 } in
+    let e : Level = record { view = c.args.view; depth = 101 - c.args.levels; parent = c.args.from - 1 } in
     let r : c.from_residual.result ≡ Err c.in_err-leads.field-0.0 = search rules in
     rw r
     (stopped c.loop-position.invariant.going c.loop-position-test.true c.if-levels-eq0.false c.requires.object.0
-    (member-laid c.args.doc.now e c.loop-position.out c.loop-position.n c.requires.object.1 c.requires.fit c.loop-position-test.true ∙ c.in_err-leads.ensures.listed) refl)
+    (member-laid c.args.doc.now e c.loop-position.position c.loop-position.out c.loop-position.n c.requires.object.1 c.requires.fit c.loop-position-test.true ∙ c.in_err-leads.ensures.listed) refl)
 
 pub walk_object-walk_below-requires : goal.walk_object-walk_below-requires
 walk_object-walk_below-requires t c =
-    let e : Entry = record { view = c.args.view; position = c.loop-position.position; depth = 101 - c.args.levels; parent = c.args.from - 1 } in
-    let u = c.in_ok-leads.ensures.leads ∙ leads-same c.args.doc.now e c.loop-position.out c.loop-position.n in (
+    let e : Level = record { view = c.args.view; depth = 101 - c.args.levels; parent = c.args.from - 1 } in
+    let u = c.in_ok-leads.ensures.leads ∙ leads-same c.args.doc.now e c.loop-position.position c.loop-position.out c.loop-position.n in (
       omega arith,
       (
         (omega arith, entry-fits c.args.doc.now c.args.view c.loop-position.position u),
@@ -111,21 +111,21 @@ walk_object-walk_below-requires t c =
 
 pub walk_object-returns-in_err-n-clause-listed : goal.walk_object-returns-in_err-n-clause-listed
 walk_object-returns-in_err-n-clause-listed t c =
-    let e : Entry = record { view = c.args.view; position = c.loop-position.position; depth = 101 - c.args.levels; parent = c.args.from - 1 } in
-    let u = c.in_ok-leads.ensures.leads ∙ leads-same c.args.doc.now e c.loop-position.out c.loop-position.n in
+    let e : Level = record { view = c.args.view; depth = 101 - c.args.levels; parent = c.args.from - 1 } in
+    let u = c.in_ok-leads.ensures.leads ∙ leads-same c.args.doc.now e c.loop-position.position c.loop-position.out c.loop-position.n in
     let r : c.from_residual-in_err-n.result ≡ Err c.in_err-n.field-0.0 = search rules in
     rw r
     (stopped-below c.loop-position.invariant.going c.loop-position-test.true c.if-levels-eq0.false c.requires.object.0
-    (member-laid c.args.doc.now e c.loop-position.out c.loop-position.n c.requires.object.1 c.requires.fit c.loop-position-test.true ∙ c.in_ok-leads.ensures.listed) refl u c.in_err-n.ensures.listed refl)
+    (member-laid c.args.doc.now e c.loop-position.position c.loop-position.out c.loop-position.n c.requires.object.1 c.requires.fit c.loop-position-test.true ∙ c.in_ok-leads.ensures.listed) refl u c.in_err-n.ensures.listed refl)
 
 pub walk_object-loop-position-preserved : goal.walk_object-loop-position-preserved
 walk_object-loop-position-preserved t c =
-    let e : Entry = record { view = c.args.view; position = c.loop-position.position; depth = 101 - c.args.levels; parent = c.args.from - 1 } in
-    let u = c.in_ok-leads.ensures.leads ∙ leads-same c.args.doc.now e c.loop-position.out c.loop-position.n in
+    let e : Level = record { view = c.args.view; depth = 101 - c.args.levels; parent = c.args.from - 1 } in
+    let u = c.in_ok-leads.ensures.leads ∙ leads-same c.args.doc.now e c.loop-position.position c.loop-position.out c.loop-position.n in
     record {
       going =
           on c.loop-position.invariant.going c.loop-position-test.true c.if-levels-eq0.false c.requires.object.0
-          (member-laid c.args.doc.now e c.loop-position.out c.loop-position.n c.requires.object.1 c.requires.fit c.loop-position-test.true ∙ c.in_ok-leads.ensures.listed) refl u c.in_ok-n.ensures.listed refl (c.walk_below.auto.out ∙ c.list_member.auto.out);
+          (member-laid c.args.doc.now e c.loop-position.position c.loop-position.out c.loop-position.n c.requires.object.1 c.requires.fit c.loop-position-test.true ∙ c.in_ok-leads.ensures.listed) refl u c.in_ok-n.ensures.listed refl (c.walk_below.auto.out ∙ c.list_member.auto.out);
       last = c.in_ok-n.ensures.kept;
     }
 

@@ -7,9 +7,9 @@ use Rattle.walk.proofs.list_member.Goals as goal
 pub invariant_of-key_at : goal.invariant_of-key_at
 invariant_of-key_at c =
     let f = c.requires.fit.0 in
-    let h = key-fits c.args.doc.now c.args.e.view c.args.e.position c.requires.object c.key_place.ensures.value f c.requires.fit.1 in
+    let h = key-fits c.args.doc.now c.args.level.now.view c.args.position c.requires.object c.key_place.ensures.value f c.requires.fit.1 in
     record { ordered = omega (arith, h); inside = f.inside; short = f.short }
 
 pub key_at-requires-clause-whole : goal.key_at-requires-clause-whole
 key_at-requires-clause-whole c =
-    (key-fits c.args.doc.now c.args.e.view c.args.e.position c.requires.object c.key_place.ensures.value c.requires.fit.0 c.requires.fit.1, refl)
+    (key-fits c.args.doc.now c.args.level.now.view c.args.position c.requires.object c.key_place.ensures.value c.requires.fit.0 c.requires.fit.1, refl)

@@ -16,4 +16,4 @@ returns-clause-last c =
     let x = c.in_ok-x.x in
     let e : seen_text d x ≡ Ok _ = search rules in
     subst (λ (l : List ℕ). Last d l (c.args.n + 1)) (sym c.put.ensures)
-    (event-last d c.args.out.now c.args.n (seen_event c.args.e c.args.key x) (omega (arith, c.requires.last.1)) c.requires.known (string-text d x e))
+    (event-last d c.args.out.now c.args.n (seen_event c.args.level.now c.args.position c.args.key x) (omega (arith, c.requires.last.1)) c.requires.known (string-text d x e))
