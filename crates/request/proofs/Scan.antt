@@ -1,23 +1,24 @@
--- How many bytes stand before the first that is looked for, from a place on.
+-- How many bytes stand before the first that is looked for, in the library's words.
 -- Assumes nothing.
-use Prim.Native.Nat.{ℕ, suc, ◌+◌, ◌≤◌, ◌<◌}
-use mathlib.Core.Path.{◌≡◌}
-use mathlib.Core.List.{List}
-use native.Mathlib.Numerals.{add-one}
-use lib.ListN.{length, get_or, drop, drop_of_length-le}
-use lib.Seq.{drop-cons}
-use borrow.Author.Tests.{eq-eqb, ne_eqb}
+use Prim.Native.Nat.{ℕ, ◌<◌}
+use mathlib.Core.Path.{◌≡◌, refl}
+use mathlib.Core.Bool.{Bool, true, false, not}
+use mathlib.Core.List.{List, [], ◌∷◌}
+use native.Mathlib.Omega.{arith}
+use lib.Dec.{eqb}
+use lib.ListN.{length, drop, drop_of_length-le}
+use Rattle.std.specs.List.{prefix_len}
 use Rattle.request.specs.Find.{before}
 
-module _ (b : ℕ) (t : List ℕ) (at : ℕ) where
-  pub before-end : length t ≤ at → before b (drop at t) ≡ 0
-  unfolding before
-  before-end h = rw (drop_of_length-le t h)
+by : {A : Type 0} (t : Bool) → (t ≡ true → A) → (t ≡ false → A) → A
+by true f g = f refl
+by false f g = g refl
 
-  pub before_here : at < length t → get_or t at 0 ≡ b → before b (drop at t) ≡ 0
-  unfolding before
-  before_here h e = rw (drop-cons t at 0 h) (simp (eq-eqb _ _ e))
+pub before_prefix : (b : ℕ) (xs : List ℕ) → before b xs ≡ prefix_len (λ x. not (eqb x b)) xs
+unfolding before
+before_prefix b [] = refl
+before_prefix b (x ∷ xs) = by (eqb x b) (λ e. simp e) (λ e. simp e (omega (arith, before_prefix b xs)))
 
-  pub before_more : at < length t → (get_or t at 0 ≡ b → ⊥) → before b (drop at t) ≡ suc (before b (drop (at + 1) t))
-  unfolding before
-  before_more h e = rw (drop-cons t at 0 h) (simp (ne_eqb _ _ e, add-one))
+pub before_end : (b : ℕ) (t : List ℕ) (at : ℕ) → length t < at → before b (drop at t) ≡ 0
+unfolding before
+before_end b t at h = rw (drop_of_length-le t {i = at} (omega arith))

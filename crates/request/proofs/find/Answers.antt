@@ -1,20 +1,17 @@
--- What was passed and what stands before the byte from there on make the answer; at the byte, and at the text's end, nothing is left.
+-- What is counted are the bytes that stand before the first that is looked for; past the end there are none.
 -- Assumes nothing.
-use Rattle.std.proofs.Common.{arith}
-use Rattle.request.proofs.Scan.{before-end, before_here, before_more}
+use Rattle.std.proofs.Common.{ℕ, ◌≡◌, ◌+◌, ◌<◌, ◌∙◌, ap, sym, length, drop, arith}
+use Rattle.std.proofs.lemmas.Grind.{common_steps}
+use Rattle.request.proofs.Scan.{before_prefix, before_end}
 use Rattle.request.proofs.find.Goals as goal
 
-pub returns-then-text-i : goal.returns-then-text-i
-returns-then-text-i c =
-    let e = before_here c.args.byte c.args.text.now c.loop-i.i (omega arith) c.if-text-i.true in
-    omega arith
+pub returns-in-Some : goal.returns-in-Some
+returns-in-Some c =
+    let rest = drop c.args.from c.args.text.now in
+    let e : c.in-Some.rest.now ≡ rest = grind (arith, common_steps) in
+    ap (λ (n : ℕ). c.args.from + n) (rw e at c.before-in-Some.ensures.value ∙ sym (before_prefix c.args.byte rest))
 
-pub loop-i-preserved : goal.loop-i-preserved
-loop-i-preserved c =
-    let e = before_more c.args.byte c.args.text.now c.loop-i.i (omega arith) c.if-text-i.false in
-    omega arith
-
-pub returns : goal.returns
-returns c =
-    let e = before-end c.args.byte c.args.text.now c.loop-i.i (omega arith) in
-    omega arith
+pub returns-in-None : goal.returns-in-None
+returns-in-None c =
+    let h : length c.args.text.now < c.args.from = grind (arith, common_steps) in
+    omega (arith, before_end c.args.byte c.args.text.now c.args.from h)

@@ -1,13 +1,8 @@
-use Rattle.std.proofs.Common.{◌≡◌, ◌-◌, ◌≤◌, ◌<◌, length, drop}
+-- The digits passed and those from there on write the same number as all.
+-- Assumes nothing.
+use Rattle.std.proofs.Common.{◌≡◌, ◌<◌, drop}
 use Rattle.request.specs.Number.{number_from, number_of}
 use Rattle.request.proofs.number.Given as goal
 
-abbrev pub invariant-loop-i : goal.invariant-loop-i
-invariant-loop-i l = record {
-  within : l.i ≤ length l.text;
-  small : l.n < 4294967296;
-  value : number_of l.text ≡ number_from l.n (drop l.i l.text);
-}
-
-abbrev pub decreases-loop-i : goal.decreases-loop-i
-decreases-loop-i l = length l.text - l.i
+abbrev pub invariant-loop-b : goal.invariant-loop-b
+invariant-loop-b l = record { small : l.n < 4294967296; value : number_of l.text ≡ number_from l.n (drop l.b-index l.text) }
