@@ -73,6 +73,7 @@ fn number(w: Window<'_>, t: JsonbType, width: usize, x: Number) -> Result<Value,
 }
 
 // A length field and as many bytes: where the bytes are.
+#[inline(always)]
 #[tactic(auto, using(crate::proofs::Fields::field_within), unfolding(crate::specs::Reading::part_at))]
 pub fn part(w: Window<'_>) -> Result<Span, Refusal>
     ensures { result ≡ part_at w.entry.doc.now w.entry.at w.entry.end }
