@@ -1,17 +1,16 @@
 -- What the check of a part's bytes says of the part.
 -- Assumes nothing.
 use mathlib.Core.Path.{◌≡◌, refl, sym, ap, ◌∙◌}
-use mathlib.Core.Bool.{Bool, true, false, cond}
+use mathlib.Core.Bool.{Bool, cond}
 use mathlib.Core.List.{List}
 use Prim.Native.Nat.{ℕ, ◌+◌, ◌-◌, ◌≤◌, ◌<◌}
 use native.Mathlib.Omega.{arith}
-use lib.Dec.{ltb}
 use lib.ListN.{length, take, drop, length-take, length-drop}
 use borrow.Author.Tests.{le-ltb, lt-ltb}
 use Rattle.std.specs.Prelude.{Result, Ok, Err, ⊤}
 use Rattle.rfc3629.specs.Machine.{Verdict, ok, bad, run, verdict, verdict_from, plus}
 use Rattle.rfc3629.proofs.Counted.{counted}
-use Rattle.utf8.specs.Answer.{Tells, Check, bad_at, answer as check_answer, checked}
+use Rattle.utf8.specs.Answer.{Tells, Check, answer as check_answer, checked}
 use Rattle.utf8.specs.declared.Utf8Error.{Utf8Error}
 use Rattle.utf8.proofs.Answers.{breaks-within}
 use Rattle.value.specs.declared.Span.{Span}
