@@ -9,7 +9,7 @@ use Rattle.refusal.specs.declared.Refusal.TheVariants as refusal
 use Rattle.refusal.specs.Refusals.{number_of}
 use Rattle.codes.specs.Lists.{search}
 use Rattle.events.specs.declared.Stopped.{Stopped as Stop}
-use Rattle.events.specs.Walked.{Walked, Done, Stopped, walked}
+use Rattle.events.specs.Walked.{Walked, walked}
 use Rattle.events.specs.Lay.{Laid, laid}
 
 pub one-laid : {x : Laid} {r q : Walked} {a b : List ℕ} → x ≡ laid r a → x ≡ laid q b → (r ≡ q) × (a ≡ b)

@@ -1,25 +1,15 @@
 -- Cases of the definitions by the tests that lead to them, with what callees gave as variables of their own.
 -- Assumes nothing.
 use mathlib.Core.Path.{◌≡◌, refl, sym, ap, ◌∙◌}
-use mathlib.Core.Bool.{Bool, true, false, cond}
 use mathlib.Core.List.{List, [], ◌∷◌, ◌++◌}
-use Prim.Native.Nat.{ℕ, suc, ◌+◌, ◌*◌, ◌/◌, ◌-◌, ◌≤◌, ◌<◌}
+use Prim.Native.Nat.{ℕ, suc, ◌+◌, ◌*◌, ◌≤◌, ◌<◌}
 use native.Mathlib.Omega.{arith}
 use native.Mathlib.Numerals.{add-one}
 use lib.ListN.{length, get_or, set, take, drop, length-append, get_or-append}
 use lib.Seq.{sets, sets-eq, length-take-le, get_or-append-add}
-use borrow.Author.Tests.{le-ltb, lt-ltb, eq-eqb, ne_eqb}
-use Rattle.layout.proofs.Cond.{yes, no}
-use Rattle.layout.specs.declared.Kind.{Kind}
-use Rattle.codes.specs.declared.types.JsonbType.{JsonbType}
-use Rattle.value.specs.declared.Span.{Span}
-use Rattle.value.specs.declared.Value.{Value}
 use Rattle.events.specs.declared.Event.{Event}
-use Rattle.events.specs.declared.Spot.{Spot}
-use Rattle.events.specs.Walked.{Done, Stopped}
-use Rattle.events.specs.Events.{span, kind_code, code_of, bytes_of, bytes_from, part_of, extra_of, event_of, numbers, wide}
-use Rattle.events.specs.Listing as listing
-use Rattle.events.specs.Lay.{Laid, laid, put, room, lay}
+use Rattle.events.specs.Events.{numbers, wide}
+use Rattle.events.specs.Lay.{put}
 
 -- numbers stored one after the other, at i + k and up, as code stores them
 abbrev stores : List ℕ → ℕ → ℕ → List ℕ → List ℕ

@@ -3,12 +3,12 @@
 use mathlib.Core.Path.{◌≡◌, refl, sym, ap, ◌∙◌, subst}
 use mathlib.Core.Bool.{Bool, true, false, cond}
 use mathlib.Core.List.{List}
-use Prim.Native.Nat.{ℕ, ◌+◌, ◌-◌, ◌≤◌, ◌<◌, min}
+use Prim.Native.Nat.{ℕ, ◌+◌, ◌≤◌, ◌<◌, min}
 use native.Mathlib.Omega.{arith}
 use lib.Dec.{ltb}
 use lib.ListN.{length, get_or}
 use borrow.Author.Tests.{le-ltb, lt-ltb, ltb-true, ltb-false}
-use Rattle.std.specs.Prelude.{Result, Ok, Err, ⊤}
+use Rattle.std.specs.Prelude.{Result, Ok, Err}
 use Rattle.refusal.specs.declared.Refusal.{Refusal}
 use Rattle.refusal.specs.declared.Refusal.TheVariants as refusal
 use Rattle.codes.specs.Types.{type_of}
@@ -17,10 +17,10 @@ use Rattle.layout.specs.Layout.{offset_size, offset_at}
 use Rattle.value.specs.declared.View.{View}
 use Rattle.value.specs.declared.Value.{Value}
 use Rattle.content.specs.Reading.{kind, content_at, read_at}
-use Rattle.header.specs.Headers.{place_of, placed, then}
+use Rattle.header.specs.Headers.{place_of}
 use Rattle.header.specs.Course.{Within}
 use Rattle.header.proofs.Placed.{placed-within}
-use Rattle.entry.specs.Entries.{end_of, is_inlined, pointed_at, typed_entry, entry_of}
+use Rattle.entry.specs.Entries.{is_inlined, pointed_at, typed_entry, entry_of}
 use Rattle.sight.specs.Sights.{sight_of, bounds, start_by, typed_start_by, sight_at}
 use Rattle.sight.specs.declared.Sight.{Sight}
 

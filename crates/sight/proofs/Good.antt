@@ -3,7 +3,7 @@
 use mathlib.Core.Path.{◌≡◌, refl}
 use mathlib.Core.Bool.{Bool, true, false, cond}
 use mathlib.Core.List.{List}
-use Prim.Native.Nat.{ℕ, ◌+◌, ◌*◌, ◌-◌, ◌≤◌, ◌<◌}
+use Prim.Native.Nat.{ℕ, ◌+◌, ◌*◌, ◌-◌}
 use native.Mathlib.Omega.{arith}
 use lib.Dec.{ltb, leb}
 use lib.ListN.{length, get_or}
@@ -26,11 +26,10 @@ use Rattle.value.specs.declared.Value.{Value}
 use Rattle.value.specs.declared.Value.TheVariants as value
 use Rattle.value.specs.declared.View.{View}
 use Rattle.content.specs.Reading.{kind, viewed, container_at, scalar_of, literal_scalar, literal_of, literal_at, number_at, part_at, string_at, opaque_of, opaque_at, content_at, read_at}
-use Rattle.header.specs.declared.Header.{Header}
 use Rattle.header.specs.Headers.{header, header_at, place_of, placed, then}
 use Rattle.header.specs.Course.{Within}
 use Rattle.header.proofs.Placed.{right-place}
-use Rattle.entry.specs.Entries.{end_of, is_inlined, place_at, value_end, pointed_at, typed_entry, entry_of, entry_at, entry_read}
+use Rattle.entry.specs.Entries.{end_of, is_inlined, place_at, value_end, pointed_at, typed_entry, entry_at, entry_read}
 use Rattle.sight.specs.Course.{SoundScalar, Fit}
 
 abbrev GoodValue : List ℕ → Value → Type 0

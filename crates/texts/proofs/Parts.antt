@@ -10,7 +10,7 @@ use borrow.Author.Tests.{le-ltb, lt-ltb}
 use Rattle.std.specs.Prelude.{Result, Ok, Err, ⊤}
 use Rattle.rfc3629.specs.Machine.{Verdict, ok, bad, run, verdict, verdict_from, plus}
 use Rattle.rfc3629.proofs.Counted.{counted}
-use Rattle.utf8.specs.Answer.{Tells, Check, bad_at, answer as check_answer, checked}
+use Rattle.utf8.specs.Answer.{Tells, Check, answer as check_answer, checked}
 use Rattle.utf8.specs.declared.Utf8Error.{Utf8Error}
 use Rattle.utf8.proofs.Answers.{breaks-within}
 use Rattle.value.specs.declared.Span.{Span}

@@ -1,8 +1,7 @@
 -- Where an entry's value stands, by the tests of the code.
 -- Assumes nothing.
-use Rattle.std.proofs.Common.{◌≡◌, ◌≤◌, sym, ap, ◌∙◌, arith, ◌+◌, rules, Err, length}
+use Rattle.std.proofs.Common.{sym, ap, ◌∙◌, arith, ◌+◌, rules, length}
 use Rattle.header.specs.Course.{Within}
-use Rattle.sight.specs.Sights.{sight_at}
 use Rattle.sight.proofs.Entries.{past-end, in-entry, pointed-right}
 use Rattle.sight.proofs.sight_at.Goals as goal
 
