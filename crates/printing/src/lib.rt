@@ -20,7 +20,8 @@ fn last_shown(x: u32) -> u8
     (x % 10) as u8 + 48
 }
 
-// Prints the w lowest digits of x from `at` on.
+// Prints the w lowest digits of x from `at` on. The place stands beside the output, here and below: a part of it, lent on, would be no plainer, since each
+// clause says what stands before the place too.
 fn put_group(out: &mut [u8], at: usize, w: usize, x: u32)
     requires { at + w ≤ length out.old }
     ensures { out.new ≡ take at out.old ++ (map show (digits 10 w x) ++ drop (at + w) out.old) }

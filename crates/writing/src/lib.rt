@@ -14,7 +14,8 @@ use formed::Formed;
 use groups::{Parts, Sides};
 use refusal::Refusal;
 
-// Writes the w lowest bytes of a number, highest first.
+// Writes the w lowest bytes of a number, highest first. The place stands beside the output: a part of it, lent on, would be no plainer, since each clause
+// says what stands before the place too.
 fn put_bytes(out: &mut [u8], at: usize, w: usize, x: u32)
     requires { (w ≤ 4) × (at + w ≤ length out.old) }
     ensures { out.new ≡ laid_at out.old at w (digits 256 w x) }
