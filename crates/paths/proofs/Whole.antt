@@ -9,7 +9,7 @@ use native.Mathlib.Nat.{le_refl}
 use native.Mathlib.Omega.{arith}
 use lib.Dec.{ltb, leb, eqb}
 use lib.ListN.{length, get_or}
-use borrow.Author.Tests.{ltb-false, eqb-true, le-ltb, lt-leb, eq-eqb}
+use borrow.Author.Tests.{ltb-false, le-ltb, lt-leb, eq-eqb}
 use Rattle.raw.specs.Numbers.{le}
 use Rattle.raw.proofs.Bounds.{le-inside}
 use Rattle.codes.specs.Literals.{type_of as literal_type}
@@ -17,8 +17,6 @@ use Rattle.columns.specs.Columns.{type_of as column_type}
 use Rattle.codes.specs.Types.{type_of}
 use Rattle.codes.specs.declared.types.JsonbType.{JsonbType}
 use Rattle.codes.specs.declared.types.JsonbType.TheVariants as type
-use Rattle.codes.specs.declared.literals.LiteralType.{LiteralType}
-use Rattle.codes.specs.declared.literals.LiteralType.TheVariants as literal
 use Rattle.std.specs.Prelude.{Result, Ok, Err, ⊤}
 use Rattle.refusal.specs.declared.Refusal.{Refusal}
 use Rattle.refusal.specs.declared.Refusal.TheVariants as refusal
@@ -28,17 +26,16 @@ use Rattle.layout.proofs.Inside.{size-two}
 use Rattle.value.specs.declared.View.{View}
 use Rattle.value.specs.declared.Span.{Span}
 use Rattle.value.specs.declared.Number.{Number}
-use Rattle.value.specs.declared.Scalar.{Scalar}
 use Rattle.value.specs.declared.Scalar.TheVariants as scalar
 use Rattle.value.specs.declared.Value.{Value}
 use Rattle.value.specs.declared.Value.TheVariants as value
-use Rattle.content.specs.Reading.{kind, view, viewed, container_at, literal_scalar, literal_of, literal_at, number_at, part_at, string_at, scalar_of}
+use Rattle.content.specs.Reading.{kind, view, viewed, container_at, literal_of, literal_at, number_at, part_at, string_at, scalar_of}
 use Rattle.content.specs.Reading.{opaque_of, opaque_at, content_at, read_at}
-use Rattle.header.specs.Headers.{header, header_at, header_read, place_of, placed, then}
+use Rattle.header.specs.Headers.{header, header_at, header_read, place_of, then}
 use Rattle.header.specs.Course.{Within}
 use Rattle.header.proofs.Placed.{right-place, placed-within}
 use Rattle.header.specs.declared.Header.{Header}
-use Rattle.entry.specs.Entries.{end_of, is_inlined, place_at, key_place_at, pointed_at, typed_entry, entry_of, entry_at, entry_read, key_entry_at, key_read, value_start}
+use Rattle.entry.specs.Entries.{end_of, is_inlined, place_at, key_place_at, pointed_at, typed_entry, entry_at, entry_read, key_entry_at, key_read, value_start}
 use Rattle.gate.specs.Said.{Said, says, nothing, refuses, read_said}
 use Rattle.jsonb.specs.Views.{typed_at, root_read, elem_at, key_at}
 use Rattle.gate.specs.Before.{names, matches, gated, Whole, gate_of}

@@ -5,11 +5,9 @@ use mathlib.Core.Bool.{Bool, true, false, cond}
 use mathlib.Core.List.{List}
 use Prim.Native.Nat.{ℕ, ◌+◌, ◌<◌}
 use native.Mathlib.Omega.{arith}
-use lib.Dec.{ltb}
 use lib.ListN.{length}
-use Rattle.std.specs.Prelude.{Result, Ok, Err, Option, Some, None, ⊤}
+use Rattle.std.specs.Prelude.{Result, Ok, Err, Option, None, ⊤}
 use Rattle.refusal.specs.declared.Refusal.{Refusal}
-use Rattle.refusal.specs.Refusals.{number_of}
 use Rattle.layout.specs.Layout.{key_entry}
 use Rattle.layout.proofs.Inside.{key-inside}
 use Rattle.header.specs.Course.{Within}
@@ -21,21 +19,20 @@ use Rattle.value.specs.declared.Value.TheVariants as value
 use Rattle.entry.specs.Entries.{end_of, place_at, key_place_at, key_end, key_of, key_entry_at, key_read, entry_read, value_start}
 use Rattle.gate.specs.Said.{Said, says, read_said}
 use Rattle.events.specs.declared.Spot.{Spot}
-use Rattle.events.specs.Walked.{Walked, Done, Stopped}
 use Rattle.events.specs.Events.{no_key}
 use Rattle.events.specs.Text.{text_at}
-use Rattle.events.specs.Lay.{Laid, laid, lay, put, room}
+use Rattle.events.specs.Lay.{Laid, lay}
 use Rattle.texts.proofs.Parts.{no-key-text}
 use Rattle.sight.specs.declared.Sight.{Sight}
-use Rattle.sight.specs.Sights.{sight_of, sight_at}
+use Rattle.sight.specs.Sights.{sight_of}
 use Rattle.sight.specs.Course.{Fit}
 use Rattle.sight.proofs.Laws.{sight-entry, entry-sound, entry-fit}
-use Rattle.paths.specs.Judged.{Judged, Stand, spot, text_then, value_judged, key_judged, judged, node, childless}
+use Rattle.paths.specs.Judged.{Stand, spot, text_then, value_judged, key_judged, judged, node, childless}
 use Rattle.paths.specs.Levels.{entry_stand}
 use Rattle.root_event.specs.Root.{leads_to}
 use Rattle.walk.specs.declared.Level.{Level}
 use Rattle.walk.specs.Tested.{Fits}
-use Rattle.walk.specs.Course.{seen_text, seen_container, container_in, entry_sight, by_text, by_sight, by_key_text, by_key}
+use Rattle.walk.specs.Course.{seen_text, container_in, entry_sight, by_text, by_sight, by_key_text, by_key}
 use Rattle.walk.proofs.Values.{value-refused, value-breaks, value-fits, value-leads}
 
 pub within : (d : List ℕ) (v : View) (i : ℕ) → Fit d v → i < v.count → Within (length d) (key_place_at v i + key_entry v.kind) (end_of v)

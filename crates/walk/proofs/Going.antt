@@ -14,7 +14,7 @@ use Rattle.std.specs.Prelude.{Option}
 use Rattle.value.specs.declared.View.{View}
 use Rattle.value.specs.declared.Value.TheVariants.{Container}
 use Rattle.entry.specs.Entries.{place_at, entry_read}
-use Rattle.events.specs.Walked.{Walked, Done, Stopped}
+use Rattle.events.specs.Walked.{Done, Stopped}
 use Rattle.paths.specs.Judged.{judged, node, childless}
 use Rattle.events.specs.Listing.{Listing}
 use Rattle.paths.specs.Levels.{◌then◌, size, entries, entry_stand, entry_listing, children}

@@ -6,21 +6,20 @@
 use mathlib.Core.Path.{◌≡◌, refl, sym, ap, ◌∙◌}
 use mathlib.Core.Bool.{Bool, true, false, cond}
 use mathlib.Core.List.{List}
-use Prim.Native.Nat.{ℕ, suc, ◌+◌, ◌-◌}
+use Prim.Native.Nat.{ℕ, suc, ◌+◌}
 use native.Mathlib.Omega.{arith}
 use lib.Dec.{ltb}
-use Rattle.std.specs.Prelude.{Result, Ok, Err, Option, Some, None, ⊤}
+use Rattle.std.specs.Prelude.{Result, Ok, Err, ⊤}
 use Rattle.refusal.specs.declared.Refusal.{Refusal}
 use Rattle.value.specs.declared.Span.{Span}
-use Rattle.value.specs.declared.View.{View}
 use Rattle.value.specs.declared.Value.{Value}
 use Rattle.value.specs.declared.Value.TheVariants as value
 use Rattle.gate.specs.Said.{Said, says, nothing, refuses, read_said}
 use Rattle.events.specs.declared.Spot.{Spot}
-use Rattle.events.specs.Walked.{Walked, Done, Stopped}
+use Rattle.events.specs.Walked.{Done, Stopped}
 use Rattle.events.specs.Events.{event_of}
 use Rattle.events.specs.Text.{text_at, value_text}
-use Rattle.paths.specs.Judged.{Stand, Judged, bad, good, spot, text_then, value_judged, key_judged, judged, node, childless}
+use Rattle.paths.specs.Judged.{Stand, Judged, good, spot, text_then, value_judged, key_judged, judged, node, childless}
 use Rattle.events.specs.Listing.{Listing, end, fault, event}
 use Rattle.paths.specs.Levels.{◌then◌, size, entries, children}
 use Rattle.events.specs.Lay.{Laid, laid, lay, put, room}

@@ -7,7 +7,7 @@ use Prim.Native.Nat.{ℕ, ◌+◌, ◌-◌}
 use native.Mathlib.Omega.{arith}
 use lib.Dec.{ltb, eqb}
 use lib.ListN.{length, get_or}
-use borrow.Author.Tests.{ltb-true, eq-eqb}
+use borrow.Author.Tests.{ltb-true}
 use Rattle.std.specs.Prelude.{Result, Ok, Err, Option, ⊤}
 use Rattle.refusal.specs.declared.Refusal.{Refusal}
 use Rattle.refusal.specs.declared.Refusal.TheVariants as refusal
@@ -15,19 +15,18 @@ use Rattle.codes.specs.Types.{type_of}
 use Rattle.codes.specs.declared.types.JsonbType.TheVariants as type
 use Rattle.value.specs.declared.View.{View}
 use Rattle.value.specs.declared.Value.{Value}
-use Rattle.value.specs.declared.Value.TheVariants as value
 use Rattle.value.specs.declared.Scalar.TheVariants as scalar
 use Rattle.content.specs.Reading.{scalar_of}
 use Rattle.gate.specs.Said.{read_said}
 use Rattle.jsonb.specs.Views.{typed_at, root_read}
 use Rattle.events.specs.declared.Event.{Event}
-use Rattle.events.specs.Walked.{Walked, Done, Stopped}
-use Rattle.events.specs.Events.{no_key, code_of, part_of, event_of, kind_code}
-use Rattle.events.specs.Text.{text_at, value_text}
+use Rattle.events.specs.Walked.{Done, Stopped}
+use Rattle.events.specs.Events.{no_key, event_of}
+use Rattle.events.specs.Text.{value_text}
 use Rattle.events.specs.Listing.{end, event}
 use Rattle.events.specs.Lay.{Laid, laid, lay, put, room}
 use Rattle.texts.proofs.Parts.{no-key-text}
-use Rattle.sight.specs.Course.{Sound, SoundValue, Fit}
+use Rattle.sight.specs.Course.{Sound, SoundValue}
 use Rattle.sight.proofs.Good.{Good, then-good, read-good}
 use Rattle.sight.proofs.Laws.{good-sound}
 use Rattle.paths.specs.Judged.{spot, good, text_then, value_judged, judged, node, childless}

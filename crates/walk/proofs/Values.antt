@@ -8,13 +8,12 @@ use native.Mathlib.Omega.{arith}
 use lib.Dec.{ltb, eqb}
 use lib.ListN.{length, get_or}
 use lib.Seq.{length-sets}
-use borrow.Author.Tests.{le-ltb, lt-ltb, eq-eqb}
+use borrow.Author.Tests.{lt-ltb, eq-eqb}
 use Rattle.std.specs.Prelude.{Result, Ok, Err, Option, Some, None, ⊤}
 use Rattle.refusal.specs.declared.Refusal.{Refusal}
 use Rattle.refusal.specs.Refusals.{number_of}
 use Rattle.codes.specs.Types.{code_of as type_code}
 use Rattle.layout.specs.declared.Kind.{Kind}
-use Rattle.value.specs.declared.Span.{Span}
 use Rattle.value.specs.declared.View.{View}
 use Rattle.value.specs.declared.Value.{Value}
 use Rattle.value.specs.declared.Value.TheVariants as value
@@ -22,10 +21,9 @@ use Rattle.content.specs.Reading.{kind, view}
 use Rattle.gate.specs.Said.{read_said}
 use Rattle.events.specs.declared.Event.{Event}
 use Rattle.events.specs.declared.Spot.{Spot}
-use Rattle.events.specs.Walked.{Walked, Done, Stopped}
+use Rattle.events.specs.Walked.{Done, Stopped}
 use Rattle.events.specs.Events.{span, numbers, wide, kind_code, code_of, part_of, extra_of, event_of}
 use Rattle.events.specs.Text.{text_at, value_text}
-use Rattle.events.specs.Listing.{Listing, end, fault, event}
 use Rattle.events.specs.Lay.{Laid, laid, lay, put, room}
 use Rattle.events.proofs.Cases.{put-number}
 use Rattle.events.proofs.Room.{room_for, room-same}

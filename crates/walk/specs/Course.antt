@@ -7,7 +7,6 @@ use Rattle.value.specs.declared.View.{View}
 use Rattle.value.specs.declared.Span.{Span}
 use Rattle.value.specs.declared.Value.TheVariants.{Container}
 use Rattle.content.specs.Reading.{kind, view}
-use Rattle.entry.specs.Entries.{place_at}
 use Rattle.events.specs.declared.Event.{Event}
 use Rattle.events.specs.Listing.{Listing, end}
 use Rattle.events.specs.Lay.{Laid, laid, put, room}

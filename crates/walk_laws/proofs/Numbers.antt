@@ -5,7 +5,7 @@
 --     stopped-at, stopped-bounds               the path at which a walk stopped and its number, which is 1 to 12
 --     starts-past, not_first                   a value starts past the place of its entry
 -- Assumes nothing.
-use mathlib.Core.Path.{◌≡◌, refl, sym, ap, ◌∙◌, subst}
+use mathlib.Core.Path.{◌≡◌, refl, sym, ◌∙◌, subst}
 use mathlib.Core.Bool.{Bool, true, false, cond}
 use mathlib.Core.List.Memᴰ
 use mathlib.Core.List.{List, [], ◌∷◌, Memᴰ}
@@ -27,22 +27,19 @@ use Rattle.refusal.specs.declared.Refusal.{Refusal}
 use Rattle.refusal.specs.declared.Refusal.TheVariants as refusals
 use Rattle.refusal.specs.Refusals.{number_of}
 use Rattle.length_field.specs.Length.{field_of, length_at}
-use Rattle.length_field.specs.declared.Length.{Length}
 use Rattle.codes.specs.declared.literals.LiteralType.{LiteralType}
-use Rattle.codes.specs.declared.literals.LiteralType.TheVariants as literal
 use Rattle.columns.specs.declared.ColumnType.{ColumnType}
 use Rattle.layout.specs.Layout.{offset_size, header_size, offset_at}
 use Rattle.layout.specs.declared.Kind.{Kind}
 use Rattle.value.specs.declared.View.{View}
 use Rattle.value.specs.declared.Span.{Span}
 use Rattle.value.specs.declared.Number.{Number}
-use Rattle.value.specs.declared.Scalar.{Scalar}
 use Rattle.value.specs.declared.Scalar.TheVariants as scalar
 use Rattle.value.specs.declared.Value.{Value}
 use Rattle.value.specs.declared.Value.TheVariants as value
-use Rattle.content.specs.Reading.{kind, viewed, container_at, literal_of, literal_at, number_at, bytes_of, part_at, part_of, string_at, scalar_of}
-use Rattle.content.specs.Reading.{opaque_of, opaque_at, content_at, read_at}
-use Rattle.header.specs.Headers.{header, header_at, place_of, then}
+use Rattle.content.specs.Reading.{kind, viewed, container_at, literal_at, number_at, bytes_of, part_at, string_at}
+use Rattle.content.specs.Reading.{opaque_at, content_at, read_at}
+use Rattle.header.specs.Headers.{header_at, place_of, then}
 use Rattle.header.specs.declared.Header.{Header}
 use Rattle.entry.specs.Entries.{end_of, is_inlined, place_at, key_place_at, pointed_at, typed_entry, entry_of, entry_at, key_offset, key_length, key_of, key_entry_at}
 use Rattle.entry.specs.Entries.{start_of, typed_start, value_start}

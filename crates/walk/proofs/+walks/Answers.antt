@@ -1,12 +1,11 @@
 -- What is below a container, laid from an event on, is what its walker answers and leaves: the loop keeps `Going`, an entry is listed and then what is
 -- below it, with one level less; what is kept as known was tested. The measure is the levels left.
 -- Assumes nothing.
-use Rattle.std.proofs.Common.{◌≡◌, refl, ◌+◌, ◌-◌, sym, ap, ◌∙◌, arith, rules, Err}
+use Rattle.std.proofs.Common.{◌≡◌, refl, ◌-◌, sym, ap, ◌∙◌, arith, rules, Err}
 use Rattle.refusal.specs.Refusals.{number_of}
 use Rattle.events.specs.Lay.{lay}
 use Rattle.events.proofs.Room.{room-same, room_small}
 use Rattle.walk.specs.declared.Level.{Level}
-use Rattle.walk.specs.Course.{below}
 use Rattle.walk.proofs.Entries.{element-laid, member-laid, leads-same, entry-fits}
 use Rattle.walk.proofs.Going.{told, start, over, deep, stopped, stopped-below, on}
 use Rattle.walk.proofs.+walks.Goals as goal
