@@ -1,9 +1,7 @@
 -- The bytes that hexadecimal digits write, two to a byte, the higher first; '-' is 45 and stands for no bytes.
 -- Assumes nothing.
-use Rattle.std.specs.Prelude.{ℕ, ◌+◌, ◌-◌, ◌*◌, Bool, true, false, cond, List, [], ◌∷◌, ◌++◌, leb, ltb, eqb, length, drop}
+use Rattle.std.specs.Prelude.{ℕ, ◌+◌, ◌-◌, ◌*◌, Bool, true, false, cond, List, [], ◌∷◌, ◌++◌, leb, ltb, eqb, length, drop, Option, Some, None}
 use Rattle.request.specs.Test.{both, is_in}
-use Rattle.hexadecimal.specs.declared.Taken.{Taken}
-use Rattle.hexadecimal.specs.declared.Taken.TheVariants.{Bytes as Count, Nothing}
 
 -- the value of a digit, 16 for what is none: '0' is 48, 'A' 65 and 'a' 97
 unfoldable pub digit : ℕ → ℕ
@@ -32,8 +30,8 @@ unfoldable pub is_taken : List ℕ → List ℕ → Bool
 is_taken text out = both (is_hex text) (leb (length (pairs text)) (length out))
 
 -- the answer, and the output afterwards
-unfoldable pub bytes_of : List ℕ → List ℕ → Taken
-bytes_of text out = cond (is_taken text out) (Count (length (pairs text))) Nothing
+unfoldable pub bytes_of : List ℕ → List ℕ → Option ℕ
+bytes_of text out = cond (is_taken text out) (Some (length (pairs text))) None
 
 unfoldable pub bytes_leave : List ℕ → List ℕ → List ℕ
 bytes_leave text out = cond (is_taken text out) (pairs text ++ drop (length (pairs text)) out) out

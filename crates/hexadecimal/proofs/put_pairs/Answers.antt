@@ -1,63 +1,54 @@
--- The bytes written and those of the pairs from there on are all bytes, and what follows the written ones is as it was. Each pair is two digits, so its byte fits.
+-- Each pair is two digits, so its byte fits; the bytes written so far and the next are those of one pair more.
 -- Assumes what the contract requires, and nothing else.
-use Rattle.std.proofs.Common.{◌≡◌, length, ap, arith}
-use Rattle.std.proofs.Math.ListN.{length-set}
+use Rattle.std.proofs.Common.{ℕ, List, ◌≡◌, ◌+◌, ◌*◌, ◌++◌, ◌∙◌, sym, ap, get_or, set, drop, length, arith}
+use Rattle.std.proofs.Math.Seq.{paste}
+use Rattle.std.proofs.lemmas.List.Edits.{paste_more, paste_all}
 use Rattle.hexadecimal.specs.Hex.{pairs}
-use Rattle.hexadecimal.proofs.Pairs.{not-odd, first-digit, second-digit, pairs-behind, bytes-end, bytes-more, written-more, kept_more, all-written}
+use Rattle.hexadecimal.proofs.Pairs.{half, pair_at}
 use Rattle.hexadecimal.proofs.put_pairs.Goals as goal
+
+pub digit-requires : goal.digit-requires
+digit-requires c =
+    let h = half c.args.text.now c.requires.text_value in
+    (pair_at c.args.text.now c.loop-k.k c.requires.text_value (omega arith)).first
 
 pub overflow_mul-out : goal.overflow_mul-out
 overflow_mul-out c =
-    let l = c.loop-at in
-    let t = c.args.text.now in
-    let h = not-odd t l.at l.invariant.digits (omega arith) in
-    let x = first-digit t l.at h l.invariant.digits in
-    omega (arith, c.digit.ensures)
+    let h = half c.args.text.now c.requires.text_value in
+    let p = pair_at c.args.text.now c.loop-k.k c.requires.text_value (omega arith) in
+    omega (arith, p.first, c.digit.ensures)
 
-pub bounds-text-at-in-loop-at : goal.bounds-text-at-in-loop-at
-bounds-text-at-in-loop-at c =
-    not-odd c.args.text.now c.loop-at.at c.loop-at.invariant.digits (omega arith)
+pub digit-requires-in-loop-k : goal.digit-requires-in-loop-k
+digit-requires-in-loop-k c =
+    let h = half c.args.text.now c.requires.text_value in
+    (pair_at c.args.text.now c.loop-k.k c.requires.text_value (omega arith)).second
 
 pub overflow_add-out : goal.overflow_add-out
 overflow_add-out c =
-    let l = c.loop-at in
-    let t = c.args.text.now in
-    let h = not-odd t l.at l.invariant.digits (omega arith) in
-    let x = first-digit t l.at h l.invariant.digits in
-    let y = second-digit t l.at h l.invariant.digits in
-    omega (arith, c.digit.ensures, c.digit-in-loop-at.ensures)
+    let h = half c.args.text.now c.requires.text_value in
+    let p = pair_at c.args.text.now c.loop-k.k c.requires.text_value (omega arith) in
+    omega (arith, p.first, p.second, c.digit.ensures, c.digit-in-loop-k.ensures)
 
 pub bounds-out-k : goal.bounds-out-k
-bounds-out-k c =
-    let l = c.loop-at in
-    let t = c.args.text.now in
-    let h = not-odd t l.at l.invariant.digits (omega arith) in
-    let m = ap length (bytes-more t l.at h) in
-    omega arith
+bounds-out-k c = omega (arith, half c.args.text.now c.requires.text_value)
 
-pub loop-at-preserved : goal.loop-at-preserved
-loop-at-preserved c =
-    let l = c.loop-at in
+pub loop-k-preserved : goal.loop-k-preserved
+loop-k-preserved c =
     let t = c.args.text.now in
-    let i = l.invariant in
-    let h = not-odd t l.at i.digits (omega arith) in
-    let b = bytes-more t l.at h in
-    let m = ap length b in
-    record {
-      digits = pairs-behind t l.at h i.digits;
-      counted = omega arith;
-      written = rw (c.digit.ensures, c.digit-in-loop-at.ensures) (written-more l.out _ _ l.k _ (omega arith) (rw b at i.written));
-      kept = kept_more l.out c.args.out.now l.k _ i.kept;
-      same_length = simp length-set i.same_length;
-      within = omega arith;
-    }
+    let k = c.loop-k.k in
+    let h = half t c.requires.text_value in
+    let p = pair_at t k c.requires.text_value (omega arith) in
+    let e : 16 * c.digit.result + c.digit-in-loop-k.result ≡ get_or (pairs t) k 0 = omega (arith, p.byte, c.digit.ensures, c.digit-in-loop-k.ensures) in
+    let m = paste_more c.args.out.now 0 (pairs t) k 0 (omega arith) (omega arith) in
+    let z : 0 + k ≡ k = omega arith in
+    ap (λ (o : List ℕ). set o k (16 * c.digit.result + c.digit-in-loop-k.result)) c.loop-k.invariant
+    ∙ ap (set (paste c.args.out.now 0 (pairs t) k) k) e
+    ∙ ap (λ (i : ℕ). set (paste c.args.out.now 0 (pairs t) k) i (get_or (pairs t) k 0)) (sym z)
+    ∙ m
 
 pub returns : goal.returns
 returns c =
-    let l = c.loop-at in
     let t = c.args.text.now in
-    let e = bytes-end t l.at (omega arith) in
-    let m = ap length e in
-    let i = l.invariant in
-    let k : l.k ≡ length (pairs t) = omega arith in
-    rw (← k) (all-written l.out c.args.out.now (pairs t) l.k (rw e at i.written) i.kept)
+    let n : c.loop-k.k ≡ length (pairs t) = omega (arith, half t c.requires.text_value) in
+    let z : 0 + c.loop-k.k ≡ length (pairs t) = omega arith in
+    c.loop-k.invariant ∙ paste_all c.args.out.now 0 (pairs t) c.loop-k.k n ∙ ap (λ (i : ℕ). pairs t ++ drop i c.args.out.now) z
