@@ -17,11 +17,16 @@ use refusal::Refusal;
 fn capped(groups: &[u32; 9], t: usize) -> bool
     ensures { result ≡ all 9 (λ k. capped_at t k (get_or groups.now k 0)) }
 {
-    // A bound for each, and not two tests: so the compiler makes half the instructions of it.
-    groups
-        .iter()
-        .enumerate()
-        .all(|(k, g)| *g < if k < t { 1000000000 } else { 1 })
+    for (k, g) in groups.iter().enumerate() {
+        if k < t {
+            if *g >= 1000000000 {
+                return false;
+            }
+        } else if *g != 0 {
+            return false;
+        }
+    }
+    true
 }
 
 // Only the first group can have fewer digits, and only the last a unit above 1.
@@ -70,6 +75,7 @@ pub fn below_zero(negative: bool, groups: &[u32; 9]) -> bool
 
 // Whether these parts are those of a decimal.
 #[tactic(auto, unfolding(groups::specs::Write::well_formed, groups::specs::Sign::signed_nought))]
+#[inline(never)]
 pub fn well_formed(parts: &Parts) -> bool
     ensures { result
         ≡ well_formed parts.now.negative parts.now.intg parts.now.frac parts.now.groups }
