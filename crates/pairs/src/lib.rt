@@ -57,6 +57,7 @@ pub fn pairs_end(s: &[u8], at: usize) -> usize
         return at;
     }
     let mut j = at;
+    // a `for` over the blocks would need the place beside it, which goes on only where a block is right
     while j < s.len() - 1 {
         // the last block would end past the text, and begins earlier
         let k = j.min(s.len() - 17);
