@@ -57,7 +57,7 @@ pub fn pairs_end(s: &[u8], at: usize) -> usize
         return at;
     }
     let mut j = at;
-    // no `for`: the last block begins earlier than the place, so that the place goes on by what a block tells
+    // a `for` over the blocks would need the place beside it, which goes on only where a block is right
     while j < s.len() - 1 {
         // the last block would end past the text, and begins earlier
         let k = j.min(s.len() - 17);
