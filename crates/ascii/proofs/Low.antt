@@ -75,7 +75,7 @@ module _ (s : List ℕ) (at : ℕ) where
   out h = let e : low (drop at s) ≡ 0 = ap low (drop_of_length-le s h) in omega arith
 
   -- from any place among ASCII the end is the same
-  pub pass : (j : ℕ) → at ≤ j → j ≤ ascii_end s at → ascii_end s j ≡ ascii_end s at
+  pub pass : (j : ℕ) → at ≤ j → j ≤ ascii_end s at → ascii_end s at ≡ ascii_end s j
   pass j h g =
       let n = j - at in
       let d : at + n ≡ j = omega arith in

@@ -161,7 +161,7 @@ unfolding value
 tops-first s at p h = omega (arith, next-zeros 8 s at p h, low_take 8 (drop at s))
 
 -- words that are put together are clear where each is
-pub both_clear : (a t i e e' : ℕ) → eqb a 0 ≡ leb i e → eqb t 0 ≡ leb (i + 8) e' → (i ≤ e → e' ≡ e) → eqb (bit_or a t) 0 ≡ leb (i + 8) e
+pub both_clear : (a t i e e' : ℕ) → eqb a 0 ≡ leb i e → eqb t 0 ≡ leb (i + 8) e' → (i ≤ e → e ≡ e') → eqb (bit_or a t) 0 ≡ leb (i + 8) e
 both_clear a t i e e' p q same_end =
     let l = le_or_l a t in
     let r = le_or_r a t in
