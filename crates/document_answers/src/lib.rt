@@ -97,6 +97,7 @@ fn items<W: Write, T: Display + Drop, F: Fn(&[u8], View, u32) -> (T, u32)>(
     Ok(())
 }
 
+// The three iterations, one handler over their places, which are three types.
 pub fn elements<W: Write>(out: &mut W, asked: &mut Asked<'_>) -> Result<(), Fault> {
     items(out, asked, |doc, view, at| {
         let step = Elements { view, at }.next(doc);

@@ -62,6 +62,7 @@ fn length<W: Write>(out: &mut W, doc: &[u8]) -> io::Result<()> {
 // ---- decimals
 
 // The decimal that the root is, with its precision kept; other values are none.
+// (`decimal_answers` has one too: what both use would be a crate of its own for five lines.)
 fn root_decimal(doc: &[u8]) -> Result<Option<Decimal>, Refusal> {
     match opaque::decimal_part(jsonb::deserialize(doc)?) {
         Some(part) => Ok(Some(opaque::opaque_decimal(doc, part, true)?)),

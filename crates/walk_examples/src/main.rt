@@ -85,8 +85,8 @@ fn nested_byte(len: usize, i: usize) -> u8 {
 // Walks true inside arrays. Seven bytes are an array.
 fn nested<W: Write>(out: &mut W, doc: &mut [u8]) -> io::Result<()> {
     let len = doc.len();
-    for i in 0..len {
-        doc[i] = nested_byte(len, i);
+    for (i, byte) in doc.iter_mut().enumerate() {
+        *byte = nested_byte(len, i);
     }
     write!(out, "walk with 918 of true inside {} arrays: ", len / 7)?;
     let mut lent = [0u32; 918];
