@@ -132,23 +132,6 @@ impl Event {
         }
     }
 
-    // Its numbers, as they are laid out.
-    pub fn numbers(self) -> [u32; WIDE]
-        ensures { result ≡ numbers self }
-    {
-        [
-            self.code,
-            self.depth,
-            self.position,
-            self.key.start,
-            self.key.len,
-            self.part.start,
-            self.part.len,
-            self.extra,
-            self.parent,
-        ]
-    }
-
     // Lays it into a list as the n-th event.
     #[tactic(auto, using(crate::proofs::Cases::put_stores))]
     pub fn put(self, out: &mut [u32], n: usize)

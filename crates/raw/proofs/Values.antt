@@ -28,9 +28,6 @@ value-one i [] = rw drop-nil
 value-one zero (x ∷ l) = omega arith
 value-one (suc i) (x ∷ l) = value-one i l
 
-pub value-two : (i : ℕ) (l : List ℕ) → get_or l i 0 + 256 * get_or l (i + 1) 0 ≡ value (take 2 (drop i l))
-value-two i l = omega (arith, value-split 1 1 i l, value-one i l, value-one (i + 1) l)
-
 -- ---- bounds
 abbrev pub Bytes : List ℕ → Type 0
 Bytes l = (k : ℕ) → get_or l k 0 < 256

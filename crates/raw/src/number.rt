@@ -1,4 +1,5 @@
-// Little-endian numbers. A byte that is not there, or stands at the end or past it, counts as 0.
+// Little-endian numbers. A byte that is not there, or stands at the end or past it, counts as 0. Place and end may be any numbers, so no type holds the two, as
+// `Window` of `header` does where a document has them.
 ghost use Rattle.std.specs.Prelude.{◌≡◌, ◌+◌, ◌-◌, ◌^◌, ◌≤◌, ◌<◌, min, length, take, drop};
 ghost use Rattle.raw.specs.Numbers.{value, le};
 

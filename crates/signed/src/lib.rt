@@ -1,4 +1,5 @@
-// Signed little-endian numbers: the upper half of the patterns of so many bits stands for the numbers below 0. What is not there counts as 0, as in `raw`.
+// Signed little-endian numbers: the upper half of the patterns of so many bits stands for the numbers below 0. What is not there counts as 0, as in `raw`, and
+// place and end may be any numbers, so that no type holds the two.
 #![tactic(auto)]
 
 ghost use Rattle.std.specs.Prelude.{◌≡◌};

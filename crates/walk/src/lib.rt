@@ -115,6 +115,8 @@ fn seen_container(x: Sight) -> Option<View>
 }
 
 // Lists an entry whose key is known and whose value stands at a place. The answer is the container that its value is.
+// (The list, the count and the room are parameters of each function here: a struct of them would be lent through memory at each level of the stack, and a clause
+// would still say how the list was, how it is and what of it counts.)
 fn list_value(
     doc: &[u8],
     out: &mut [u32],
