@@ -140,7 +140,7 @@ fn quick(s: &[u8]) -> Result<usize, Utf8Error>
     }
     let hot = s.len() - 3;
     let mut i = past_pairs(s, front(s));
-    // each turn ends where its character does, which no range of places tells
+    // each turn ends where its character does, here and in the loop below, which no range of places tells
     while i < hot {
         // one ASCII byte alone, as a space between words, is not worth a word's test
         i = if s[i] < 128 && s[i + 1] < 128 {

@@ -14,7 +14,8 @@ use formed::Formed;
 use groups::{Parts, Sides};
 use refusal::Refusal;
 
-// Writes the w lowest bytes of a number, highest first. A loop, since `to_be_bytes` and `copy_from_slice` of w bytes took twenty-five instructions more a part.
+// Writes the w lowest bytes of a number, highest first, from a place on: each clause here says what stands before the place too, so that a part of the output, lent
+// on, would be no plainer. A loop, since `to_be_bytes` and `copy_from_slice` of w bytes took twenty-five instructions more a part.
 fn put_bytes(out: &mut [u8], at: usize, w: usize, x: u32)
     requires { (w ≤ 4) × (at + w ≤ length out.old) }
     ensures { out.new ≡ laid_at out.old at w (digits 256 w x) }
