@@ -16,7 +16,7 @@ fn tops<const N: usize>(s: &[u8], at: usize) -> u64
     ensures clear { (result == 0) ≡ nat_le (at + N) (ascii_end s.now at) }
     ensures first { N ≡ 8 → at + trailing_zeros w64 result / 8 ≡ min (at + 8) (ascii_end s.now at) }
 {
-    raw::whole::<N>(s, at) & TOPS
+    raw::number_of(&s[at..at + N]) & TOPS
 }
 
 // Whether the next W words are all ASCII. They are put together and tested at once, by vectors.

@@ -49,9 +49,9 @@ impl<'a> Window<'a> {
         ensures { result ≡ offset_at self.entry.doc.now k self.entry.at self.entry.end }
     {
         if k.large {
-            return raw::whole::<4>(self.doc, self.at) as u32;
+            return raw::number_of(&self.doc[self.at..self.at + 4]) as u32;
         }
-        raw::whole::<2>(self.doc, self.at) as u32
+        raw::number_of(&self.doc[self.at..self.at + 2]) as u32
     }
 
     // Count and size, where both and the header fit.

@@ -51,7 +51,7 @@ odd (a ∷ b ∷ cs) h =
 
 -- ---- what is known of a text that passes
 -- half as many bytes as digits
-half_pairs : (t : List ℕ) → are_pairs t ≡ true → 2 * length (pairs t) ≡ length t
+pub half_pairs : (t : List ℕ) → are_pairs t ≡ true → 2 * length (pairs t) ≡ length t
 unfolding are_pairs pairs
 half_pairs [] e = refl
 half_pairs (a ∷ []) e = absurd (subst T (sym e) tt)

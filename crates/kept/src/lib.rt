@@ -14,13 +14,16 @@ fn leading(groups: &[u32; 9], n: usize) -> usize
     groups.iter().take(n).take_while(|g| **g == 0).count()
 }
 
-// The groups without the first z.
+// The groups without the first z. They are taken one by one: a copy of a length that the compiler does not know is a call of memcpy, and the archive for C may
+// need no function from outside.
 fn shifted(groups: &[u32; 9], z: usize) -> [u32; 9]
     requires { z ≤ 9 }
     ensures { result ≡ tab 9 (λ k. get_or groups.now (k + z) 0) }
 {
     let mut out = [0; 9];
-    out[..9 - z].copy_from_slice(&groups[z..]);
+    for k in 0..9 {
+        out[k] = groups.get(k + z).copied().unwrap_or(0);
+    }
     out
 }
 

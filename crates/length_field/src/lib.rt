@@ -14,6 +14,7 @@ pub struct Length {
 }
 
 // Group by group: `low` is what the k groups passed hold, and `unit` what the next one counts.
+#[inline(never)]
 fn grouped(doc: &[u8], at: usize, end: usize) -> Result<Length, Refusal>
     ensures value { result ≡ length_at doc.now at end }
     ensures within { IfOk result (λ f. (at < f.next) × (f.next ≤ end) × (f.next ≤ length doc.now)) }
@@ -39,7 +40,8 @@ fn grouped(doc: &[u8], at: usize, end: usize) -> Result<Length, Refusal>
     Err(Refusal::Length)
 }
 
-// Most fields have one byte, which takes nine instructions more in the loop.
+// Most fields have one byte, which takes nine instructions more in the loop. Always inlined: their answer would go through memory.
+#[inline(always)]
 #[tactic(auto, using(crate::proofs::Fields::one))]
 pub fn length_at(doc: &[u8], at: usize, end: usize) -> Result<Length, Refusal>
     ensures value { result ≡ length_at doc.now at end }

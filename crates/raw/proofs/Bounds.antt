@@ -3,14 +3,14 @@
 use mathlib.Core.Path.{◌≡◌, refl, sym, ap, ◌∙◌}
 use mathlib.Core.List.{List, [], ◌∷◌}
 use Prim.Native.Nat.{ℕ, zero, suc, ◌+◌, ◌*◌, ◌-◌, ◌^◌, ◌≤◌, ◌<◌, min}
-use native.Mathlib.Nat.{min-le_left}
+use native.Mathlib.Nat.{min-le_left, min-le_right}
 use native.Mathlib.Omega.{arith}
 use lib.ListN.{length, take, drop, length-take}
 use lib.Seq.{slice, take-take}
 use Rattle.std.proofs.lemmas.List.{take_all}
 use Rattle.raw.specs.Numbers.{value, le}
 use Rattle.raw.proofs.Parts.{slice-bytes, slice-length}
-use Rattle.raw.proofs.Values.{value-split, Bytes, bytes_take, bytes_drop, value-below}
+use Rattle.raw.proofs.Values.{value-split, Bytes, bytes_take, value-below}
 
 -- v + w bytes are v, and w above them
 pub le_split : (v w : ℕ) (doc : List ℕ) (at end : ℕ) → le (v + w) doc at end ≡ le v doc at end + 256 ^ v * le w doc (at + v) end
@@ -46,11 +46,13 @@ le-part w (suc n) doc at end e h =
     let l : length s ≡ suc n = slice-length doc at end ∙ sym e in
     ap value (take_all w s (omega arith) ∙ sym (take_all (suc n) s (omega arith)) ∙ take-slice (suc n) at end doc (omega arith))
 
--- w bytes of the document hold no more
-pub whole_below : (w : ℕ) (doc : List ℕ) (at : ℕ) → Bytes doc → value (take w (drop at doc)) < 256 ^ w
-whole_below w doc at p =
-    let s = drop at doc in
-    value-below w (take w s) (bytes_take w s (bytes_drop at doc p)) (rw length-take (min-le_left w (length s)))
+-- who hands over no more than eight bytes has all of them read
+pub first_eight : (w : ℕ) (l : List ℕ) → w ≤ 8 → take 8 (take w l) ≡ take w l
+first_eight w l h = take_all 8 (take w l) (rw length-take (omega (arith, min-le_left w (length l))))
+
+-- a part holds no more than its length can, nor do its first eight bytes
+pub part_below : (l : List ℕ) → Bytes l → value (take 8 l) < 256 ^ length l
+part_below l p = value-below (length l) (take 8 l) (bytes_take 8 l p) (rw length-take (min-le_right 8 (length l)))
 
 -- what stands at the end or past it does not count
 pub le_same : (w : ℕ) (a b : List ℕ) (at end : ℕ) → take end a ≡ take end b → le w a at end ≡ le w b at end

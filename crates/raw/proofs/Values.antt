@@ -1,11 +1,11 @@
 -- The laws of `value`, for every width and every list, also one that ends early.
 -- Assumes nothing.
-use mathlib.Core.Path.{◌≡◌, ap, ◌∙◌}
+use mathlib.Core.Path.{◌≡◌, refl, ap, ◌∙◌}
 use mathlib.Core.List.{List, [], ◌∷◌}
 use Prim.Native.Nat.{ℕ, zero, suc, ◌+◌, ◌*◌, ◌^◌, ◌≤◌, ◌<◌}
 use native.Mathlib.Nat.{zero-add, suc-add, pow-succ', mul_assoc, pow-le-pow_right}
 use native.Mathlib.Omega.{arith}
-use lib.ListN.{length, get_or, take, drop}
+use lib.ListN.{length, get_or, take, drop, length-drop}
 use lib.Seq.{take-nil, drop-nil, drop-drop}
 use Rattle.raw.specs.Numbers.{value}
 
@@ -27,6 +27,21 @@ unfolding value
 value-one i [] = rw drop-nil
 value-one zero (x ∷ l) = omega arith
 value-one (suc i) (x ∷ l) = value-one i l
+
+-- one byte more in front
+more-front : (j : ℕ) (l : List ℕ) → value (drop j l) ≡ get_or l j 0 + 256 * value (drop (suc j) l)
+unfolding value
+more-front j [] = rw drop-nil (omega arith)
+more-front zero (x ∷ l) = omega arith
+more-front (suc j) (x ∷ l) = more-front j l
+
+pub value-next : (i j : ℕ) (l : List ℕ) → suc j ≡ i → value (drop j l) ≡ get_or l j 0 + 256 * value (drop i l)
+value-next i j l e = rw (← e) (more-front j l)
+
+pub value-end : (l : List ℕ) → value (drop (length l) l) ≡ 0
+unfolding value
+value-end [] = refl
+value-end (x ∷ l) = value-end l
 
 -- ---- bounds
 abbrev pub Bytes : List ℕ → Type 0
@@ -50,3 +65,6 @@ below_length (x ∷ l) p = omega (arith, p 0, pow-succ' 256 (length l), below_le
 
 pub value-below : (w : ℕ) (l : List ℕ) → Bytes l → length l ≤ w → value l < 256 ^ w
 value-below w l p h = omega (arith, below_length l p, pow-le-pow_right {n = 256} (omega arith) {i = length l} {j = w} h)
+
+pub value_drop_below : (w i : ℕ) (l : List ℕ) → Bytes l → length l ≤ w → value (drop i l) < 256 ^ w
+value_drop_below w i l p h = value-below w (drop i l) (bytes_drop i l p) (rw length-drop (omega arith))

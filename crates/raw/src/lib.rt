@@ -3,4 +3,4 @@
 
 mod number;
 
-pub use number::{left, u16_at, u32_at, u64_at, whole};
+pub use number::{left, number_of, u16_at, u32_at, u64_at};

@@ -10,25 +10,30 @@ pub fn left(doc: &[u8], at: usize, end: usize) -> usize
     end.min(doc.len()).saturating_sub(at)
 }
 
-// The number that up to eight bytes write.
+// The number that a part's first eight bytes write, or all of fewer. Always inlined: where a caller's code says the length, this is one load.
 #[tactic(auto, using(crate::proofs::Filled::filled))]
-fn number(part: &[u8]) -> u64
-    requires { length part.now ≤ 8 }
-    ensures { result ≡ value part.now }
+#[inline(always)]
+pub fn number_of(part: &[u8]) -> u64
+    ensures value { result ≡ value (take 8 part.now) }
+    ensures upper_bound { result < 256 ^ length part.now }
 {
+    let part = &part[..part.len().min(8)];
     let mut bytes = [0; 8];
     bytes[..part.len()].copy_from_slice(part);
     u64::from_le_bytes(bytes)
 }
 
-// The number of W bytes that are all there: one load.
-pub fn whole<const W: usize>(doc: &[u8], at: usize) -> u64
-    requires width { W ≤ 8 }
-    requires all_there { at + W ≤ length doc.now }
-    ensures value { result ≡ value (take W (drop at doc.now)) }
-    ensures upper_bound { result < 256 ^ W }
+// The number that up to eight bytes write. They are put together one by one, from the last: a copy of a length that the compiler does not know is a call of
+// memcpy, and the archive for C may need no function from outside.
+fn few(part: &[u8]) -> u64
+    requires { length part.now ≤ 8 }
+    ensures { result ≡ value part.now }
 {
-    number(&doc[at..at + W])
+    let mut x = 0;
+    for k in (0..part.len()).rev() {
+        x = 256 * x + u64::from(part[k]);
+    }
+    x
 }
 
 // The number of those of W bytes that are there. The three widths have names of their own below, which ask nothing of a caller.
@@ -40,8 +45,8 @@ fn le_at<const W: usize>(doc: &[u8], at: usize, end: usize) -> u64
     match left(doc, at, end) {
         // the place may lie past the document
         0 => 0,
-        n if n < W => number(&doc[at..at + n]),
-        _ => whole::<W>(doc, at),
+        n if n < W => few(&doc[at..at + n]),
+        _ => number_of(&doc[at..at + W]),
     }
 }
 

@@ -24,7 +24,7 @@ use rows::put_found;
 use small_records::{put_compared, put_counted};
 use small_rows::{put_count, put_key, put_walked};
 use time::{MysqlTime, TimeType};
-use time_records::put_read;
+use time_records::{put_read, written_number};
 use value::{Value, View};
 
 // A view by its numbers: the type code says of what kind it is.
@@ -245,8 +245,5 @@ pub extern "C" fn bratthelm_time_write_packed(time: &[u32], bytes: &mut [u8]) ->
     ensures value { result ≡ (time_written_told time.now bytes.old).number }
     ensures bytes_after { bytes.new ≡ time_written_leaves time.now bytes.old }
 {
-    match write_record(time_records::time_by(time), bytes) {
-        Ok(()) => 0,
-        Err(refusal) => u32::from(refusal.number()),
-    }
+    written_number(write_record(time_records::time_by(time), bytes))
 }

@@ -44,7 +44,7 @@ module _ (d : List ℕ) (v : View) (i : ℕ) where
 pub good-sound : (d : List ℕ) (r : Result Value Refusal) → Good d r → Sound r
 good-sound d (Ok (value.Scalar t s)) g = g
 good-sound d (Ok (value.Container v)) g = tt
-good-sound d (Err r) g = tt
+good-sound d (Err r) g = g
 
 pub entry-sound : (d : List ℕ) (v : View) (i : ℕ) → Sound (entry_read d v i)
 entry-sound d v i = good-sound d (entry_read d v i) (entry-good d v i)

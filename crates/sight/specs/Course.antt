@@ -3,6 +3,7 @@
 use Rattle.std.specs.Prelude.{ℕ, ◌-◌, ◌≤◌, ◌<◌, ◌≡◌, cond, List, ltb, eqb, length, Result, Ok, Err}
 use Rattle.refusal.specs.declared.Refusal.{Refusal}
 use Rattle.refusal.specs.declared.Refusal.TheVariants as refusal
+use Rattle.refusal.specs.Refusals.{number_of}
 use Rattle.codes.specs.Types.{code_of as type_code}
 use Rattle.codes.specs.declared.types.JsonbType.{JsonbType}
 use Rattle.layout.specs.Layout.{header_size}
@@ -34,9 +35,13 @@ abbrev pub SoundValue : Value → Type 0
 SoundValue (value.Scalar t s) = SoundScalar t s
 SoundValue (value.Container v) = Unit {0}
 
+-- a refusal's number is not 0, and is below 16
+abbrev pub Numbered : ℕ → Type 0
+Numbered n = (1 ≤ n) × (n < 16)
+
 abbrev pub Sound : Result Value Refusal → Type 0
 Sound (Ok x) = SoundValue x
-Sound (Err r) = Unit {0}
+Sound (Err r) = Numbered (number_of r)
 
 -- a container that the document has, with its header
 pub record Fit (d : List ℕ) (v : View) : Type 0 where

@@ -83,6 +83,7 @@ fn literal(w: Window<'_>) -> Result<Sight, Refusal>
     ))
 }
 
+#[inline(always)]
 #[tactic(auto, unfolding(content::specs::Reading::opaque_at))]
 fn opaque(w: Window<'_>) -> Result<Sight, Refusal>
     ensures { result ≡ sight_of (opaque_at w.entry.doc.now w.entry.at w.entry.end) w.entry.at }
@@ -125,6 +126,7 @@ fn shown(w: Window<'_>, t: JsonbType) -> Result<Sight, Refusal>
 }
 
 // What the value entry at a place shows, of a container with these bounds.
+#[inline(always)]
 #[tactic(auto, unfolding(crate::specs::Sights::sight_at, crate::specs::Sights::start_by, entry::specs::Entries::typed_entry, entry::specs::Entries::pointed_at, content::specs::Reading::read_at))]
 pub fn sight_at(
     doc: &[u8],

@@ -66,7 +66,7 @@ impl MysqlTime {
         if bytes.len() < 8 {
             return Err(Refusal::TimeShort);
         }
-        let t = MysqlTime::of_number(kind, raw::whole::<8>(bytes, 0).cast_signed());
+        let t = MysqlTime::of_number(kind, raw::number_of(bytes).cast_signed());
         if t.in_range() {
             Ok(t)
         } else {

@@ -27,7 +27,7 @@ use Rattle.events.specs.Listing.{end, event}
 use Rattle.events.specs.Lay.{Laid, laid, lay, put, room}
 use Rattle.texts.proofs.Parts.{no-key-text}
 use Rattle.sight.specs.Course.{Sound, SoundValue}
-use Rattle.sight.proofs.Good.{Good, then-good, read-good}
+use Rattle.sight.proofs.Good.{Good, then-good, type-numbered, read-good}
 use Rattle.sight.proofs.Laws.{good-sound}
 use Rattle.paths.specs.Judged.{spot, good, text_then, value_judged, judged, node, childless}
 use Rattle.paths.specs.Paths.{root_stand}
@@ -46,9 +46,9 @@ root-good d = go (ltb 16777216 (length d)) (eqb (length d) 0)
   where
     go : (a b : Bool) →
         Good d (cond a (Err refusal.Document) (cond b (scalar_of type.Literal scalar.Null) (typed_at d (type_of (get_or d 0 0)) 1 (length d))))
-    go true b = tt
+    go true b = (omega arith, omega arith)
     go false true = (omega arith, λ c from. refl)
-    go false false = then-good d (type_of (get_or d 0 0)) _ (λ t. read-good d t 1 (length d))
+    go false false = then-good d (type_of (get_or d 0 0)) _ (type-numbered (get_or d 0 0)) (λ t. read-good d t 1 (length d))
 
 pub root-fits : (d : List ℕ) {u : Option View} → u ≡ leads_to (root_read d) → Fits d u
 root-fits d e = subst (Fits d) (sym e) (fits-so d (root_read d) (λ u q. subst (Good d) q (root-good d)))

@@ -9,11 +9,12 @@ use lib.Dec.{ltb, eqb}
 use lib.ListN.{length, get_or}
 use lib.Seq.{length-sets}
 use borrow.Author.Tests.{lt-ltb, eq-eqb}
-use Rattle.std.specs.Prelude.{Result, Ok, Err, Option, Some, None, ⊤}
+use Rattle.std.specs.Prelude.{Result, Ok, Err, Some, None, ⊤}
 use Rattle.refusal.specs.declared.Refusal.{Refusal}
 use Rattle.refusal.specs.Refusals.{number_of}
 use Rattle.codes.specs.Types.{code_of as type_code}
 use Rattle.layout.specs.declared.Kind.{Kind}
+use Rattle.value.specs.declared.Span.{Span}
 use Rattle.value.specs.declared.View.{View}
 use Rattle.value.specs.declared.Value.{Value}
 use Rattle.value.specs.declared.Value.TheVariants as value
@@ -32,7 +33,7 @@ use Rattle.sight.specs.Sights.{sight, sight_of}
 use Rattle.sight.specs.Course.{Sound, SoundValue}
 use Rattle.paths.specs.Judged.{Judged, good, text_then, value_judged, node, childless}
 use Rattle.root_event.specs.Root.{leads_of, leads_to}
-use Rattle.walk.specs.Course.{seen_text, seen_container}
+use Rattle.walk.specs.Course.{seen_text, container_by, seen_container, listed_container}
 use Rattle.walk.specs.Tested.{Last}
 
 -- ---- what is seen of a value is text exactly when the value is, and breaks where it breaks
@@ -55,14 +56,11 @@ seen-value d from (value.Scalar t s) h = h.1 d from
 seen-value d from (value.Container v) h = ap (λ (b : Bool). cond b (text_at d (span v.start v.size)) (Ok _)) (no-string v.kind)
 
 -- ---- the container that is seen is the one that the value is
-abbrev container-by : ℕ → ℕ → ℕ → ℕ → Option View
-container-by c s l x = cond (ltb 3 c) None (Some (view s l x (kind (ltb c 2) (eqb (c % 2) 1))))
-
-container-seen : (v : View) → container-by (kind_code v.kind) v.start v.size v.count ≡ Some v
+container-seen : (v : View) → container_by (kind_code v.kind) v.start v.size v.count ≡ Some v
 unfolding kind_code
 container-seen v = go v.kind.object v.kind.large
   where
-    go : (a b : Bool) → container-by (cond a (cond b 1 0) (cond b 3 2)) v.start v.size v.count ≡ Some (view v.start v.size v.count (kind a b))
+    go : (a b : Bool) → container_by (cond a (cond b 1 0) (cond b 3 2)) v.start v.size v.count ≡ Some (view v.start v.size v.count (kind a b))
     go true true = refl
     go true false = refl
     go false true = refl
@@ -164,6 +162,19 @@ module _ (d out : List ℕ) (n : ℕ) (e : Event) (f : n < room out) (kt : text_
             λ q. ap (λ (a : ℕ). text_at d (span a (get_or o (wide * (n + 1) - wide + 6) 0))) (number 5 (omega arith))
             ∙ ap (λ (a : ℕ). text_at d (span e.part.start a)) (number 6 (omega arith)) ∙ vt (sym first ∙ q);
       }
+
+-- the container that an event shows is the one that was seen, where the event shows what was seen
+pub put-leads : (out : List ℕ) (n : ℕ) (e : Event) (x : Sight) → n < room out → e.code ≡ x.code → e.part ≡ x.part → e.extra ≡ x.extra →
+    listed_container (put out n e) n ≡ seen_container x
+unfolding listed_container seen_container
+put-leads out n e x f ce pe xe =
+    let w : wide * n + wide ≤ length out = room_for out n f in
+    let z : wide * n ≡ wide * n + 0 = omega arith in
+    let o : List ℕ = put out n e in
+    ap (λ (c : ℕ). container_by c (get_or o (wide * n + 5) 0) (get_or o (wide * n + 6) 0) (get_or o (wide * n + 7) 0)) (ap (λ (a : ℕ). get_or o a 0) z ∙ put-number out n e w 0 (omega arith) ∙ ce)
+    ∙ ap (λ (s : ℕ). container_by x.code s (get_or o (wide * n + 6) 0) (get_or o (wide * n + 7) 0)) (put-number out n e w 5 (omega arith) ∙ ap (λ (p : Span). p.start) pe)
+    ∙ ap (λ (l : ℕ). container_by x.code x.part.start l (get_or o (wide * n + 7) 0)) (put-number out n e w 6 (omega arith) ∙ ap (λ (p : Span). p.len) pe)
+    ∙ ap (λ (k : ℕ). container_by x.code x.part.start x.part.len k) (put-number out n e w 7 (omega arith) ∙ xe)
 
 -- what is seen and is a string is text where what is seen is
 pub string-text : (d : List ℕ) (x : Sight) {u : ⊤} → seen_text d x ≡ Ok u → x.code ≡ 12 → text_at d x.part ≡ Ok u

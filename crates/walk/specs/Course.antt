@@ -1,6 +1,6 @@
 -- An entry and what is below it, in the shape of the code; no public promise rests on it.
 -- Assumes nothing.
-use Rattle.std.specs.Prelude.{ℕ, ◌+◌, ◌%◌, cond, List, ltb, eqb, Result, Ok, Err, Option, Some, None, ⊤}
+use Rattle.std.specs.Prelude.{ℕ, ◌+◌, ◌*◌, ◌%◌, cond, List, get_or, ltb, eqb, Result, Ok, Err, Option, Some, None, ⊤}
 use Rattle.refusal.specs.declared.Refusal.{Refusal}
 use Rattle.refusal.specs.Refusals.{number_of}
 use Rattle.value.specs.declared.View.{View}
@@ -8,6 +8,7 @@ use Rattle.value.specs.declared.Span.{Span}
 use Rattle.value.specs.declared.Value.TheVariants.{Container}
 use Rattle.content.specs.Reading.{kind, view}
 use Rattle.events.specs.declared.Event.{Event}
+use Rattle.events.specs.Events.{wide}
 use Rattle.events.specs.Listing.{Listing, end}
 use Rattle.events.specs.Lay.{Laid, laid, put, room}
 use Rattle.events.specs.Text.{text_at}
@@ -21,9 +22,17 @@ use Rattle.walk.specs.declared.Level.{Level}
 unfoldable pub seen_text : List ℕ → Sight → Result ⊤ ℕ
 seen_text d x = cond (eqb x.code 12) (text_at d x.part) (Ok _)
 
--- the container that is seen: the codes 0 to 3 are containers, below 2 objects, and odd ones are large
+-- the container that a type code, bytes and a count show: the codes 0 to 3 are containers, below 2 objects, and odd ones are large
+abbrev pub container_by : ℕ → ℕ → ℕ → ℕ → Option View
+container_by c s l x = cond (ltb 3 c) None (Some (view s l x (kind (ltb c 2) (eqb (c % 2) 1))))
+
+-- the container that is seen
 unfoldable pub seen_container : Sight → Option View
-seen_container x = cond (ltb 3 x.code) None (Some (view x.part.start x.part.len x.extra (kind (ltb x.code 2) (eqb (x.code % 2) 1))))
+seen_container x = container_by x.code x.part.start x.part.len x.extra
+
+-- and the one that event n of a list shows
+unfoldable pub listed_container : List ℕ → ℕ → Option View
+listed_container out n = container_by (get_or out (wide * n) 0) (get_or out (wide * n + 5) 0) (get_or out (wide * n + 6) 0) (get_or out (wide * n + 7) 0)
 
 abbrev pub container_in : Result Sight Refusal → Option View
 container_in (Ok x) = seen_container x

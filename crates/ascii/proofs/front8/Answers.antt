@@ -11,7 +11,7 @@ unfolding front
 returns-then-tops-eq0-2 c =
     let s = c.args.s.now in
     let f = front-le s 0 (omega arith) in
-    let a : 4 ≤ ascii_end s 0 = grind (arith, nat_tests) in
+    let a : length s - 4 ≤ ascii_end s 0 = grind (arith, nat_tests) in
     let b : length s - 4 + 4 ≤ ascii_end s (length s - 4) = grind (arith, nat_tests) in
     let p = pass s 0 (length s - 4) (omega arith) (omega arith) in
     grind (arith, nat_tests)

@@ -28,42 +28,42 @@ pub walk_array-list_element-requires-clause-last : goal.walk_array-list_element-
 walk_array-list_element-requires-clause-last t c =
     (c.loop-position.invariant.last, c.requires.last.1 ∙ room-same _ _ (sym c.loop-position.invariant.going.same))
 
-pub walk_array-returns-in_err-leads-clause-listed : goal.walk_array-returns-in_err-leads-clause-listed
-walk_array-returns-in_err-leads-clause-listed t c =
-    let e : Level = record { view = c.args.view; depth = 101 - c.args.levels; parent = c.args.from - 1 } in
-    let r : c.from_residual.result ≡ Err c.in_err-leads.field-0.0 = search rules in
+pub walk_array-returns-in_err-list_element-clause-listed : goal.walk_array-returns-in_err-list_element-clause-listed
+walk_array-returns-in_err-list_element-clause-listed t c =
+    let e : Level = record { view = c.args.view.now; depth = 101 - c.args.levels; parent = c.args.from - 1 } in
+    let r : c.from_residual.result ≡ Err c.in_err-list_element.field-0.0 = search rules in
     rw r
     (stopped c.loop-position.invariant.going c.loop-position-test.true c.if-levels-eq0.false c.requires.array.0
-    (element-laid c.args.doc.now e c.loop-position.position c.loop-position.out c.loop-position.n c.requires.array.1 ∙ c.in_err-leads.ensures.listed) refl)
+    (element-laid c.args.doc.now e c.loop-position.position c.loop-position.out c.loop-position.n c.requires.array.1 ∙ c.in_err-list_element.ensures.listed) refl)
 
 pub walk_array-walk_below-requires : goal.walk_array-walk_below-requires
 walk_array-walk_below-requires t c =
-    let e : Level = record { view = c.args.view; depth = 101 - c.args.levels; parent = c.args.from - 1 } in
-    let u = c.in_ok-leads.ensures.leads ∙ leads-same c.args.doc.now e c.loop-position.position c.loop-position.out c.loop-position.n in (
+    let e : Level = record { view = c.args.view.now; depth = 101 - c.args.levels; parent = c.args.from - 1 } in
+    let u = c.container_at-leads.ensures ∙ c.in_ok-list_element.ensures.leads ∙ leads-same c.args.doc.now e c.loop-position.position c.loop-position.out c.loop-position.n in (
       omega arith,
       (
-        (omega arith, entry-fits c.args.doc.now c.args.view c.loop-position.position u),
-        (c.in_ok-leads.ensures.last, c.requires.last.1 ∙ room-same _ _ (sym (c.list_element.auto.out ∙ c.loop-position.invariant.going.same))),
+        (omega arith, entry-fits c.args.doc.now c.args.view.now c.loop-position.position u),
+        (c.in_ok-list_element.ensures.last, c.requires.last.1 ∙ room-same _ _ (sym (c.list_element.auto.out ∙ c.loop-position.invariant.going.same))),
       ),
     )
 
 pub walk_array-returns-in_err-n-clause-listed : goal.walk_array-returns-in_err-n-clause-listed
 walk_array-returns-in_err-n-clause-listed t c =
-    let e : Level = record { view = c.args.view; depth = 101 - c.args.levels; parent = c.args.from - 1 } in
-    let u = c.in_ok-leads.ensures.leads ∙ leads-same c.args.doc.now e c.loop-position.position c.loop-position.out c.loop-position.n in
+    let e : Level = record { view = c.args.view.now; depth = 101 - c.args.levels; parent = c.args.from - 1 } in
+    let u = c.container_at-leads.ensures ∙ c.in_ok-list_element.ensures.leads ∙ leads-same c.args.doc.now e c.loop-position.position c.loop-position.out c.loop-position.n in
     let r : c.from_residual-in_err-n.result ≡ Err c.in_err-n.field-0.0 = search rules in
     rw r
     (stopped-below c.loop-position.invariant.going c.loop-position-test.true c.if-levels-eq0.false c.requires.array.0
-    (element-laid c.args.doc.now e c.loop-position.position c.loop-position.out c.loop-position.n c.requires.array.1 ∙ c.in_ok-leads.ensures.listed) refl u c.in_err-n.ensures.listed refl)
+    (element-laid c.args.doc.now e c.loop-position.position c.loop-position.out c.loop-position.n c.requires.array.1 ∙ c.in_ok-list_element.ensures.listed) refl u c.in_err-n.ensures.listed refl)
 
 pub walk_array-loop-position-preserved : goal.walk_array-loop-position-preserved
 walk_array-loop-position-preserved t c =
-    let e : Level = record { view = c.args.view; depth = 101 - c.args.levels; parent = c.args.from - 1 } in
-    let u = c.in_ok-leads.ensures.leads ∙ leads-same c.args.doc.now e c.loop-position.position c.loop-position.out c.loop-position.n in
+    let e : Level = record { view = c.args.view.now; depth = 101 - c.args.levels; parent = c.args.from - 1 } in
+    let u = c.container_at-leads.ensures ∙ c.in_ok-list_element.ensures.leads ∙ leads-same c.args.doc.now e c.loop-position.position c.loop-position.out c.loop-position.n in
     record {
       going =
           on c.loop-position.invariant.going c.loop-position-test.true c.if-levels-eq0.false c.requires.array.0
-          (element-laid c.args.doc.now e c.loop-position.position c.loop-position.out c.loop-position.n c.requires.array.1 ∙ c.in_ok-leads.ensures.listed) refl u c.in_ok-n.ensures.listed refl (c.walk_below.auto.out ∙ c.list_element.auto.out);
+          (element-laid c.args.doc.now e c.loop-position.position c.loop-position.out c.loop-position.n c.requires.array.1 ∙ c.in_ok-list_element.ensures.listed) refl u c.in_ok-n.ensures.listed refl (c.walk_below.auto.out ∙ c.list_element.auto.out);
       last = c.in_ok-n.ensures.kept;
     }
 
@@ -89,42 +89,42 @@ pub walk_object-list_member-requires-clause-last : goal.walk_object-list_member-
 walk_object-list_member-requires-clause-last t c =
     (c.loop-position.invariant.last, c.requires.last.1 ∙ room-same _ _ (sym c.loop-position.invariant.going.same))
 
-pub walk_object-returns-in_err-leads-clause-listed : goal.walk_object-returns-in_err-leads-clause-listed
-walk_object-returns-in_err-leads-clause-listed t c =
-    let e : Level = record { view = c.args.view; depth = 101 - c.args.levels; parent = c.args.from - 1 } in
-    let r : c.from_residual.result ≡ Err c.in_err-leads.field-0.0 = search rules in
+pub walk_object-returns-in_err-list_member-clause-listed : goal.walk_object-returns-in_err-list_member-clause-listed
+walk_object-returns-in_err-list_member-clause-listed t c =
+    let e : Level = record { view = c.args.view.now; depth = 101 - c.args.levels; parent = c.args.from - 1 } in
+    let r : c.from_residual.result ≡ Err c.in_err-list_member.field-0.0 = search rules in
     rw r
     (stopped c.loop-position.invariant.going c.loop-position-test.true c.if-levels-eq0.false c.requires.object.0
-    (member-laid c.args.doc.now e c.loop-position.position c.loop-position.out c.loop-position.n c.requires.object.1 c.requires.fit c.loop-position-test.true ∙ c.in_err-leads.ensures.listed) refl)
+    (member-laid c.args.doc.now e c.loop-position.position c.loop-position.out c.loop-position.n c.requires.object.1 c.requires.fit c.loop-position-test.true ∙ c.in_err-list_member.ensures.listed) refl)
 
 pub walk_object-walk_below-requires : goal.walk_object-walk_below-requires
 walk_object-walk_below-requires t c =
-    let e : Level = record { view = c.args.view; depth = 101 - c.args.levels; parent = c.args.from - 1 } in
-    let u = c.in_ok-leads.ensures.leads ∙ leads-same c.args.doc.now e c.loop-position.position c.loop-position.out c.loop-position.n in (
+    let e : Level = record { view = c.args.view.now; depth = 101 - c.args.levels; parent = c.args.from - 1 } in
+    let u = c.container_at-leads.ensures ∙ c.in_ok-list_member.ensures.leads ∙ leads-same c.args.doc.now e c.loop-position.position c.loop-position.out c.loop-position.n in (
       omega arith,
       (
-        (omega arith, entry-fits c.args.doc.now c.args.view c.loop-position.position u),
-        (c.in_ok-leads.ensures.last, c.requires.last.1 ∙ room-same _ _ (sym (c.list_member.auto.out ∙ c.loop-position.invariant.going.same))),
+        (omega arith, entry-fits c.args.doc.now c.args.view.now c.loop-position.position u),
+        (c.in_ok-list_member.ensures.last, c.requires.last.1 ∙ room-same _ _ (sym (c.list_member.auto.out ∙ c.loop-position.invariant.going.same))),
       ),
     )
 
 pub walk_object-returns-in_err-n-clause-listed : goal.walk_object-returns-in_err-n-clause-listed
 walk_object-returns-in_err-n-clause-listed t c =
-    let e : Level = record { view = c.args.view; depth = 101 - c.args.levels; parent = c.args.from - 1 } in
-    let u = c.in_ok-leads.ensures.leads ∙ leads-same c.args.doc.now e c.loop-position.position c.loop-position.out c.loop-position.n in
+    let e : Level = record { view = c.args.view.now; depth = 101 - c.args.levels; parent = c.args.from - 1 } in
+    let u = c.container_at-leads.ensures ∙ c.in_ok-list_member.ensures.leads ∙ leads-same c.args.doc.now e c.loop-position.position c.loop-position.out c.loop-position.n in
     let r : c.from_residual-in_err-n.result ≡ Err c.in_err-n.field-0.0 = search rules in
     rw r
     (stopped-below c.loop-position.invariant.going c.loop-position-test.true c.if-levels-eq0.false c.requires.object.0
-    (member-laid c.args.doc.now e c.loop-position.position c.loop-position.out c.loop-position.n c.requires.object.1 c.requires.fit c.loop-position-test.true ∙ c.in_ok-leads.ensures.listed) refl u c.in_err-n.ensures.listed refl)
+    (member-laid c.args.doc.now e c.loop-position.position c.loop-position.out c.loop-position.n c.requires.object.1 c.requires.fit c.loop-position-test.true ∙ c.in_ok-list_member.ensures.listed) refl u c.in_err-n.ensures.listed refl)
 
 pub walk_object-loop-position-preserved : goal.walk_object-loop-position-preserved
 walk_object-loop-position-preserved t c =
-    let e : Level = record { view = c.args.view; depth = 101 - c.args.levels; parent = c.args.from - 1 } in
-    let u = c.in_ok-leads.ensures.leads ∙ leads-same c.args.doc.now e c.loop-position.position c.loop-position.out c.loop-position.n in
+    let e : Level = record { view = c.args.view.now; depth = 101 - c.args.levels; parent = c.args.from - 1 } in
+    let u = c.container_at-leads.ensures ∙ c.in_ok-list_member.ensures.leads ∙ leads-same c.args.doc.now e c.loop-position.position c.loop-position.out c.loop-position.n in
     record {
       going =
           on c.loop-position.invariant.going c.loop-position-test.true c.if-levels-eq0.false c.requires.object.0
-          (member-laid c.args.doc.now e c.loop-position.position c.loop-position.out c.loop-position.n c.requires.object.1 c.requires.fit c.loop-position-test.true ∙ c.in_ok-leads.ensures.listed) refl u c.in_ok-n.ensures.listed refl (c.walk_below.auto.out ∙ c.list_member.auto.out);
+          (member-laid c.args.doc.now e c.loop-position.position c.loop-position.out c.loop-position.n c.requires.object.1 c.requires.fit c.loop-position-test.true ∙ c.in_ok-list_member.ensures.listed) refl u c.in_ok-n.ensures.listed refl (c.walk_below.auto.out ∙ c.list_member.auto.out);
       last = c.in_ok-n.ensures.kept;
     }
 

@@ -16,7 +16,7 @@ abbrev pub decreases-walk_below : goal.decreases-walk_below
 decreases-walk_below l = 2 * l.levels + 1
 
 abbrev pub invariant-walk_array-loop-position : goal.invariant-walk_array-loop-position
-invariant-walk_array-loop-position l = record { going : Going l.levels l.doc l.view l.fn.out l.from l.out l.n l.position; last : Last l.doc l.out l.n }
+invariant-walk_array-loop-position l = record { going : Going l.levels l.doc l.fn.view l.fn.out l.from l.out l.n l.position; last : Last l.doc l.out l.n }
 
 abbrev pub invariant-walk_object-loop-position : goal.invariant-walk_object-loop-position
-invariant-walk_object-loop-position l = record { going : Going l.levels l.doc l.view l.fn.out l.from l.out l.n l.position; last : Last l.doc l.out l.n }
+invariant-walk_object-loop-position l = record { going : Going l.levels l.doc l.fn.view l.fn.out l.from l.out l.n l.position; last : Last l.doc l.out l.n }
