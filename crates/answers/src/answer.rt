@@ -3,47 +3,42 @@ use asked::{Asked, Fault};
 use std::io;
 use std::io::Write;
 
-// The most bytes that the words of a line write.
-const BYTES: usize = 32768;
+// The most bytes that a word of a line writes.
+pub(crate) const BYTES: usize = 32768;
 
 // The answer to what a line asks, without its end. A line that is no request is found out before anything is written.
-fn answer<W: Write>(out: &mut W, line: &str) -> Result<(), Fault> {
-    let mut room = [0u8; BYTES];
-    let asked = &mut Asked::new(line, &mut room);
+fn answer<W: Write>(out: &mut W, line: &[u8], room: &mut [u8]) -> Result<(), Fault> {
+    let asked = &mut Asked::new(line, room);
     match asked.word()? {
-        "w" => walk_answers::walk(out, asked),
-        "v" => document_answers::root(out, asked),
-        "e" => document_answers::element(out, asked),
-        "k" => document_answers::key(out, asked),
-        "n" => document_answers::count(out, asked),
-        "ie" => document_answers::elements(out, asked),
-        "ik" => document_answers::keys(out, asked),
-        "im" => document_answers::members(out, asked),
-        "u" => document_answers::utf8(out, asked),
-        "r" => decimal_answers::bin(out, asked),
-        "p" => decimal_answers::packed(out, asked),
-        "t" => decimal_answers::text(out, asked),
-        "o" => decimal_answers::root(out, asked),
-        "c" => decimal_answers::compare(out, asked),
-        "s" => decimal_answers::size(out, asked),
-        "x" => record_answers::record(out, asked),
-        "y" => record_answers::order(out, asked),
-        "d" => time_answers::packed(out, asked),
-        "q" => time_answers::root(out, asked),
-        "z" => time_answers::record(out, asked),
+        b"w" => walk_answers::walk(out, asked),
+        b"v" => document_answers::root(out, asked),
+        b"e" => document_answers::element(out, asked),
+        b"k" => document_answers::key(out, asked),
+        b"n" => document_answers::count(out, asked),
+        b"ie" => document_answers::elements(out, asked),
+        b"ik" => document_answers::keys(out, asked),
+        b"im" => document_answers::members(out, asked),
+        b"u" => document_answers::utf8(out, asked),
+        b"r" => decimal_answers::bin(out, asked),
+        b"p" => decimal_answers::packed(out, asked),
+        b"t" => decimal_answers::text(out, asked),
+        b"o" => decimal_answers::root(out, asked),
+        b"c" => decimal_answers::compare(out, asked),
+        b"s" => decimal_answers::size(out, asked),
+        b"x" => record_answers::record(out, asked),
+        b"y" => record_answers::order(out, asked),
+        b"d" => time_answers::packed(out, asked),
+        b"q" => time_answers::root(out, asked),
+        b"z" => time_answers::record(out, asked),
         _ => Err(Fault::NoRequest),
     }
 }
 
-// The answer to a line that comes without its end.
-pub(crate) fn write_answer<W: Write>(out: &mut W, line: &[u8]) -> io::Result<()> {
-    let answered = match std::str::from_utf8(line) {
-        Ok(text) => answer(out, text),
-        Err(_) => Err(Fault::NoRequest),
-    };
-    match answered {
-        Ok(()) => writeln!(out),
-        Err(Fault::NoRequest) => writeln!(out, "what"),
+// The answer to a line that comes without its end. The bytes that its words write are put to a room.
+pub(crate) fn write_answer<W: Write>(out: &mut W, line: &[u8], room: &mut [u8]) -> io::Result<()> {
+    match answer(out, line, room) {
+        Ok(()) => out.write_all(b"\n"),
+        Err(Fault::NoRequest) => out.write_all(b"what\n"),
         Err(Fault::Unwritten(e)) => Err(e),
     }
 }

@@ -14,15 +14,17 @@ pub(crate) enum Came {
     End,
 }
 
-// What is read and not yet taken stands from one place of the room to another.
+// What is read and not yet taken stands from one place of the room to another. Up to a third its line's end was looked for already: a line that comes in many
+// reads is searched once.
 #[derive(Drop)]
 pub(crate) struct Lines<'a> {
     room: &'a mut [u8],
     at: usize,
+    seen: usize,
     end: usize,
     // Whether what comes next is still of a line that was too long.
     is_skipped: bool,
-    ghost ordered: { at ≤ end },
+    ghost ordered: { (at ≤ seen) × (seen ≤ end) },
     ghost inside: { end ≤ length room.now },
 }
 
@@ -31,6 +33,7 @@ impl<'a> Lines<'a> {
         Lines {
             room,
             at: 0,
+            seen: 0,
             end: 0,
             is_skipped: false,
         }
@@ -39,10 +42,14 @@ impl<'a> Lines<'a> {
     // Takes the next line that has ended: it comes without its end.
     pub(crate) fn next(&mut self) -> Option<&[u8]> {
         let from = self.at;
-        let held = &self.room[from..self.end];
-        let n = held.iter().position(|b| *b == NEWLINE)?;
-        self.at = from + n + 1;
-        Some(&self.room[from..from + n])
+        let to = request::find(&self.room[..self.end], self.seen, NEWLINE);
+        if self.end <= to {
+            self.seen = self.end;
+            return None;
+        }
+        self.at = to + 1;
+        self.seen = to + 1;
+        Some(&self.room[from..to])
     }
 
     // What is left, a line that has not ended.
@@ -57,6 +64,7 @@ impl<'a> Lines<'a> {
         }
         self.room[..self.end].rotate_left(self.at);
         self.end -= self.at;
+        self.seen -= self.at;
         self.at = 0;
         let n = input.read(&mut self.room[self.end..])?;
         if n == 0 {
@@ -68,6 +76,7 @@ impl<'a> Lines<'a> {
         }
         if self.is_skipped {
             self.at = self.end;
+            self.seen = self.end;
         }
         Ok(Came::Bytes)
     }
@@ -79,6 +88,7 @@ impl<'a> Lines<'a> {
             return Ok(Came::End);
         }
         self.at = self.end;
+        self.seen = self.end;
         self.is_skipped = one[0] != NEWLINE;
         Ok(Came::TooMuch)
     }

@@ -26,10 +26,11 @@ fn answer_all<R: Read>(
     input: &mut R,
     lines: &mut Lines<'_>,
     out: &mut Output<'_>,
+    bytes: &mut [u8],
 ) -> Result<(), Failure> {
     for _ in 0..u64::MAX {
         if let Some(line) = lines.next() {
-            answer::write_answer(out, line)?;
+            answer::write_answer(out, line, bytes)?;
             continue;
         }
         out.flush()?;
@@ -42,7 +43,7 @@ fn answer_all<R: Read>(
     }
     // The last line may have no end.
     if !lines.rest().is_empty() {
-        answer::write_answer(out, lines.rest())?;
+        answer::write_answer(out, lines.rest(), bytes)?;
     }
     out.flush()?;
     Ok(())
@@ -51,9 +52,10 @@ fn answer_all<R: Read>(
 fn main(rt: HostRuntime) {
     let mut room = [0u8; 65536];
     let mut held = [0u8; 65536];
+    let mut bytes = [0u8; answer::BYTES];
     let mut out = Output::new(rt.stdout(), &mut room);
     let mut lines = Lines::new(&mut held);
-    let said = match answer_all(&mut rt.stdin(), &mut lines, &mut out) {
+    let said = match answer_all(&mut rt.stdin(), &mut lines, &mut out, &mut bytes) {
         Ok(()) => return,
         Err(Failure::Input) => "answers: standard input cannot be read\n",
         Err(Failure::Output) => "answers: standard output cannot be written\n",

@@ -5,7 +5,10 @@
 ghost use Rattle.std.specs.Prelude.{◌≤◌, IfOk};
 
 use std::io;
-use std::str::Split;
+
+// A word is not what is asked for. (What takes the words says no more: a Fault holds all of an error, and would be handed on at each word.)
+#[derive(Clone, Copy)]
+pub struct NoRequest;
 
 // Why a line is not answered.
 #[derive(Clone, Copy)]
@@ -22,65 +25,81 @@ impl From<io::Error> for Fault {
     }
 }
 
-// The words that are left of a line, and a room for the bytes that one of them writes.
+impl From<NoRequest> for Fault {
+    fn from(_: NoRequest) -> Fault {
+        Fault::NoRequest
+    }
+}
+
+// The words that are left of a line, nothing behind the last one, and a room for the bytes that one of them writes.
 #[derive(Drop)]
 pub struct Asked<'a> {
-    words: Split<'a, char>,
+    words: Option<&'a [u8]>,
     room: &'a mut [u8],
 }
 
 impl<'a> Asked<'a> {
-    pub fn new(line: &'a str, room: &'a mut [u8]) -> Asked<'a> {
-        let words = line.split(' ');
+    pub fn new(line: &'a [u8], room: &'a mut [u8]) -> Asked<'a> {
+        let words = Some(line);
         Asked { words, room }
     }
 
-    pub fn word(&mut self) -> Result<&'a str, Fault> {
-        self.words.next().ok_or(Fault::NoRequest)
+    #[inline(always)]
+    pub fn word(&mut self) -> Result<&'a [u8], NoRequest> {
+        let words = self.words.ok_or(NoRequest)?;
+        match words.iter().position(|b| *b == b' ') {
+            Some(end) => {
+                self.words = Some(&words[end + 1..]);
+                Ok(&words[..end])
+            }
+            None => {
+                self.words = None;
+                Ok(words)
+            }
+        }
     }
 
-    pub fn number(&mut self) -> Result<u32, Fault> {
-        request::number(self.word()?.as_bytes()).ok_or(Fault::NoRequest)
+    pub fn number(&mut self) -> Result<u32, NoRequest> {
+        request::number(self.word()?).ok_or(NoRequest)
     }
 
     // A number that is no greater than another.
-    pub fn number_to(&mut self, most: u32) -> Result<u32, Fault>
+    pub fn number_to(&mut self, most: u32) -> Result<u32, NoRequest>
         ensures { IfOk result (λ n. n ≤ most) }
     {
         let n = self.number()?;
         if most < n {
-            return Err(Fault::NoRequest);
+            return Err(NoRequest);
         }
         Ok(n)
     }
 
     // 1 for yes, 0 for no.
-    pub fn flag(&mut self) -> Result<bool, Fault> {
+    pub fn flag(&mut self) -> Result<bool, NoRequest> {
         Ok(self.number_to(1)? == 1)
     }
 
-    pub fn bytes(&mut self) -> Result<&[u8], Fault> {
+    pub fn bytes(&mut self) -> Result<&[u8], NoRequest> {
         let word = self.word()?;
         self.written(word)
     }
 
-    // The bytes that the last word writes.
-    pub fn last_bytes(&mut self) -> Result<&[u8], Fault> {
-        let word = self.word()?;
-        self.end()?;
+    // The bytes that the last word writes. It is all that is left: a space is no digit.
+    pub fn last_bytes(&mut self) -> Result<&[u8], NoRequest> {
+        let word = self.words.take().ok_or(NoRequest)?;
         self.written(word)
     }
 
-    fn written(&mut self, word: &str) -> Result<&[u8], Fault> {
-        let n = hexadecimal::bytes(word.as_bytes(), self.room).ok_or(Fault::NoRequest)?;
-        self.room.get(..n).ok_or(Fault::NoRequest)
+    fn written(&mut self, word: &[u8]) -> Result<&[u8], NoRequest> {
+        let n = hexadecimal::bytes(word, self.room).ok_or(NoRequest)?;
+        self.room.get(..n).ok_or(NoRequest)
     }
 
     // That no word is left.
-    pub fn end(&mut self) -> Result<(), Fault> {
-        match self.words.next() {
+    pub fn end(&mut self) -> Result<(), NoRequest> {
+        match self.words {
             None => Ok(()),
-            Some(_) => Err(Fault::NoRequest),
+            Some(_) => Err(NoRequest),
         }
     }
 }

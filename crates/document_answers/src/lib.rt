@@ -1,7 +1,7 @@
 // The answers to questions about a document.
 #![tactic(auto)]
 
-use asked::{Asked, Fault};
+use asked::{Asked, Fault, NoRequest};
 use jsonb::{Elements, Keys, Kind, Members, View};
 use output::Answer;
 use std::fmt::Display;
@@ -25,7 +25,7 @@ pub fn utf8<W: Write>(out: &mut W, asked: &mut Asked<'_>) -> Result<(), Fault> {
 // ---- questions about a view
 
 // A view's kind, start, count and size.
-fn view(asked: &mut Asked<'_>) -> Result<View, Fault> {
+fn view(asked: &mut Asked<'_>) -> Result<View, NoRequest> {
     let code = asked.number_to(3)?;
     let kind = Kind {
         object: code < 2,

@@ -72,11 +72,18 @@ fn write_walk<W: Write>(out: &mut W, doc: &[u8]) -> io::Result<()> {
 
 // ---- the input
 
-// The document in the input, nothing where it is longer than the buffer.
+// The document in the input, nothing where it is longer than the buffer. Each read is lent all the room that is left: of a packet, what a read has no room for
+// is lost.
 fn read_document<'b, R: Read>(input: &mut R, buf: &'b mut [u8]) -> io::Result<Option<&'b [u8]>> {
     let room = buf.len();
-    let mut rest = &mut buf[..];
-    let n = io::copy(&mut input.take(room as u64), &mut rest)? as usize;
+    let mut n = 0;
+    while n < room {
+        let more = input.read(&mut buf[n..])?;
+        if more == 0 {
+            break;
+        }
+        n += more.min(room - n);
+    }
     if n == room && input.read(&mut [0u8; 1])? > 0 {
         return Ok(None);
     }

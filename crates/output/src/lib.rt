@@ -2,9 +2,10 @@
 // room.
 #![tactic(auto)]
 
-ghost use Rattle.std.specs.Prelude.{◌≡◌, ◌≤◌, ◌==◌, length, take, drop, min, MatchResult, IsOkAnd, Err};
+ghost use Rattle.std.specs.Prelude.{◌≡◌, ◌*◌, ◌<◌, ◌≤◌, ◌==◌, false, length, take, drop, min, MatchResult, IsOkAnd, Err};
 ghost use Rattle.std.specs.List.{list_all};
-ghost use Rattle.output.specs.Words.{kept_word, written_len};
+ghost use Rattle.std.specs.Fmt.{digit_glyph};
+ghost use Rattle.output.specs.Words.{hex, kept_word, written_len};
 
 use refusal::Refusal;
 use std::fmt::{Display, Formatter};
@@ -27,23 +28,45 @@ impl<'a> Output<'a> {
     }
 }
 
-impl Write for Output<'_> {
-    fn write(&mut self, text: &[u8]) -> io::Result<usize> {
+impl Output<'_> {
+    // Writes what waits, and then a text that had no room behind it.
+    fn write_anew(&mut self, text: &[u8]) -> io::Result<()> {
+        self.flush()?;
         let n = text.len();
         if self.room.len() - self.len < n {
-            self.flush()?;
-        }
-        if self.room.len() - self.len < n {
-            return self.to.write(text);
+            return self.to.write_all(text);
         }
         self.room[self.len..self.len + n].copy_from_slice(text);
         self.len += n;
-        Ok(n)
+        Ok(())
+    }
+}
+
+impl Write for Output<'_> {
+    fn write(&mut self, text: &[u8]) -> io::Result<usize> {
+        self.write_all(text)?;
+        Ok(text.len())
     }
 
     fn flush(&mut self) -> io::Result<()> {
         self.to.write_all(&self.room[..self.len])?;
         self.len = 0;
+        Ok(())
+    }
+
+    // Mostly a text fits: it is copied where it is written, and a lone byte, such as a space, is stored.
+    #[inline(always)]
+    fn write_all(&mut self, text: &[u8]) -> io::Result<()> {
+        let n = text.len();
+        if self.room.len() - self.len < n {
+            return self.write_anew(text);
+        }
+        if n == 1 {
+            self.room[self.len] = text[0];
+        } else {
+            self.room[self.len..self.len + n].copy_from_slice(text);
+        }
+        self.len += n;
         Ok(())
     }
 }
@@ -61,7 +84,7 @@ impl<T: Display> Display for Answer<T> {
 
     fn fmt<W: fmt::Write>(&self, f: &mut Formatter<W>) -> fmt::Result {
         match &self.0 {
-            Ok(x) => write!(f, "{x}"),
+            Ok(x) => x.fmt(f),
             Err(r) => write!(f, "refused {}", r.number()),
         }
     }
@@ -84,20 +107,26 @@ impl<T: Display> Display for Or<T> {
     }
 }
 
-// A byte in two hexadecimal digits.
-#[derive(Clone, Copy)]
-struct HexByte(u8);
+// A hexadecimal digit.
+fn digit(d: u8) -> u8
+    requires { d < 16 }
+    ensures { result ≡ digit_glyph false d }
+{
+    if d < 10 { b'0' + d } else { b'a' + (d - 10) }
+}
 
-impl Display for HexByte {
-    ghost use Rattle.std.specs.Prelude.{Some};
-    ghost use Rattle.output.specs.Words.{two_digits};
+// How many bytes are written at once.
+const PIECE: usize = 16;
 
-    ghost output = { λ b. Some (two_digits b.0) };
-
-    #[tactic(auto, using(std::proofs::lemmas::Fmt::hex_byte))]
-    fn fmt<W: fmt::Write>(&self, f: &mut Formatter<W>) -> fmt::Result {
-        let byte = self.0;
-        write!(f, "{byte:02x}")
+// Puts two hexadecimal digits for each byte to the front of a text.
+#[tactic(auto, using(crate::proofs::Digits::two_more))]
+fn put_digits(bytes: &[u8], text: &mut [u8])
+    requires { 2 * length bytes.now ≤ length text.old }
+    ensures { take (2 * length bytes.now) text.new ≡ hex bytes.now }
+{
+    for (i, b) in bytes.iter().enumerate() {
+        text[2 * i] = digit(*b / 16);
+        text[2 * i + 1] = digit(*b % 16);
     }
 }
 
@@ -111,9 +140,18 @@ impl Display for Hex<'_> {
 
     ghost output = { λ h. Some (hex h.0.now) };
 
+    #[tactic(auto, using(crate::proofs::Digits::piece_more))]
     fn fmt<W: fmt::Write>(&self, f: &mut Formatter<W>) -> fmt::Result {
-        for b in self.0 {
-            write!(f, "{}", HexByte(*b))?;
+        let mut rest = self.0;
+        while !rest.is_empty() {
+            let (bytes, more) = rest.split_at(rest.len().min(PIECE));
+            let mut text = [0u8; 2 * PIECE];
+            put_digits(bytes, &mut text);
+            let Ok(digits) = std::str::from_utf8(&text[..2 * bytes.len()]) else {
+                return Err(fmt::Error);
+            };
+            f.write_str(digits)?;
+            rest = more;
         }
         Ok(())
     }
@@ -147,7 +185,13 @@ impl Display for Ascii<'_> {
 
     ghost output = { λ a. Some (characters a.0.now) };
 
+    #[tactic(auto, using(crate::proofs::Digits::characters_ascii))]
     fn fmt<W: fmt::Write>(&self, f: &mut Formatter<W>) -> fmt::Result {
+        if let Ok(text) = std::str::from_utf8(self.0)
+            && text.is_ascii()
+        {
+            return f.write_str(text);
+        }
         for b in self.0 {
             write!(f, "{}", char::from(*b))?;
         }

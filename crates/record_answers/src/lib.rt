@@ -1,14 +1,14 @@
 // The answers to questions about records of decimals.
 #![tactic(auto)]
 
-use asked::{Asked, Fault};
+use asked::{Asked, Fault, NoRequest};
 use decimal::Decimal;
 use decimal_words::OrderWord;
 use output::{Answer, Ascii, Hex, Written, kept};
 use std::io::Write;
 
 // The counts of digits, the sign and the groups.
-fn decimal(asked: &mut Asked<'_>) -> Result<Decimal, Fault> {
+fn decimal(asked: &mut Asked<'_>) -> Result<Decimal, NoRequest> {
     let intg = asked.number()? as usize;
     let frac = asked.number()? as usize;
     let sign = asked.flag()?;
@@ -31,10 +31,14 @@ pub fn record<W: Write>(out: &mut W, asked: &mut Asked<'_>) -> Result<(), Fault>
     asked.end()?;
     let bytes = Written::by(room, |room| d.write_bin(room));
     let text = Written::by(room, |room| d.print(room));
-    write!(out, "{} ; ", Answer(d.bin_size()))?;
-    write!(out, "{} ; ", Answer(bytes.bytes().map(Hex)))?;
-    write!(out, "{} ; ", Answer(text.bytes().map(Ascii)))?;
-    write!(out, "{}", kept(bytes.is_kept() && text.is_kept()))?;
+    write!(
+        out,
+        "{} ; {} ; {} ; {}",
+        Answer(d.bin_size()),
+        Answer(bytes.bytes().map(Hex)),
+        Answer(text.bytes().map(Ascii)),
+        kept(bytes.is_kept() && text.is_kept())
+    )?;
     Ok(())
 }
 

@@ -1,15 +1,15 @@
 // The answers to questions about dates and times.
 #![tactic(auto)]
 
-use asked::{Asked, Fault};
+use asked::{Asked, Fault, NoRequest};
 use output::{Answer, Hex, Or, Written, kept};
 use refusal::Refusal;
 use std::io::Write;
 use time::{MysqlTime, TimeType};
 use time_words::TimeWords;
 
-fn time_type(asked: &mut Asked<'_>) -> Result<TimeType, Fault> {
-    TimeType::of(asked.number()?).ok_or(Fault::NoRequest)
+fn time_type(asked: &mut Asked<'_>) -> Result<TimeType, NoRequest> {
+    TimeType::of(asked.number()?).ok_or(NoRequest)
 }
 
 // The type.
