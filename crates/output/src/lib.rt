@@ -43,9 +43,18 @@ impl Output<'_> {
 }
 
 impl Write for Output<'_> {
+    // Where it fails, no byte of the text was written: one that is longer than the room goes to standard output once, and what that takes is said.
     fn write(&mut self, text: &[u8]) -> io::Result<usize> {
-        self.write_all(text)?;
-        Ok(text.len())
+        let n = text.len();
+        if self.room.len() - self.len < n {
+            self.flush()?;
+        }
+        if self.room.len() - self.len < n {
+            return self.to.write(text);
+        }
+        self.room[self.len..self.len + n].copy_from_slice(text);
+        self.len += n;
+        Ok(n)
     }
 
     fn flush(&mut self) -> io::Result<()> {
